@@ -1,0 +1,5 @@
+pub mod Keeps
+pub mod Fill
+pub mod Held
+pub mod Following
+pub mod Running
