@@ -1,0 +1,4 @@
+pub mod Kinds
+pub mod Making
+pub mod Documents
+pub mod Fresh
