@@ -1,4 +1,2 @@
 pub mod Kinds
 pub mod Making
-pub mod Documents
-pub mod Fresh

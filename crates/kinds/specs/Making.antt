@@ -4,6 +4,7 @@
 -- rateOf, toleranceOf, burstOf, looseBurstOf, excessOf, peakOf: the check of each word
 -- gcraTerms, tokenTerms, singleTerms, twoTerms: the rows of the table; bought: the terms of a profile, or its first fault in the order of the words
 -- made: the unused meter of what was bought; meant: a result by the meaning of its meter
+-- Word, wordBought, wordOf: the kind of a profile, and of a meter
 -- Assumes nothing.
 use mathlib.Core.Bool.{Bool, cond, _&&_}
 use Prim.Native.Nat.{ℕ, _+_, _*_}
@@ -15,6 +16,7 @@ use Rattle.meter.specs.declared.measures.Limit.{Limit}
 use Rattle.meter.specs.declared.measures.State.{State}
 use Rattle.meter.specs.declared.measures.Terms.{Terms}
 use Rattle.meter.specs.Rules.{grains, unused}
+use Rattle.kinds.specs.declared.profiles.AnyMeter.{AnyMeter}
 use Rattle.kinds.specs.declared.profiles.Fault.{Fault}
 use Rattle.kinds.specs.declared.profiles.Fault.the-variants.{BadRate, BadDepth, PeakBelowCommitted}
 use Rattle.kinds.specs.declared.profiles.Profile.{Profile}
@@ -114,3 +116,21 @@ made p = fresh (bought p)
 abbrev pub meant : {S : Type 0} → (S → State) → Result S Fault → Result State Fault
 meant f (Ok m) = Ok (f m)
 meant f (Err e) = Err e
+
+-- the words of the five kinds
+pub data Word : Type 0 where
+  vs lb tb sr tr : Word
+
+abbrev pub wordBought : Profile → Word
+wordBought (Vs t l) = vs
+wordBought (Lb t l) = lb
+wordBought (Tb r b) = tb
+wordBought (Sr cir cbs ebs) = sr
+wordBought (Tr cir cbs pir pbs) = tr
+
+abbrev pub wordOf : AnyMeter → Word
+wordOf (AnyMeter.Vs m) = vs
+wordOf (AnyMeter.Lb m) = lb
+wordOf (AnyMeter.Tb m) = tb
+wordOf (AnyMeter.Sr m) = sr
+wordOf (AnyMeter.Tr m) = tr

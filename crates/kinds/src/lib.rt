@@ -1,5 +1,4 @@
-// The five kinds of meter: what is bought, the meter made of it, and the documents that each keeps to.
-pub mod documents;
+// The five kinds of meter: what is bought, and the meter made of it.
 pub mod kinds;
 pub mod making;
 pub mod profiles;

@@ -1,7 +1,8 @@
 // From what is bought to the unused meter: the range of each number, then the row of the table.
 ghost use mathlib.Core.Path.{_≡_};
 ghost use Rattle.kinds.specs.Kinds.{gcraMeaning, tokenMeaning, singleMeaning, twoMeaning, anyMeaning};
-ghost use Rattle.kinds.specs.Making.{faultNumber, rateOf, toleranceOf, burstOf, looseBurstOf, excessOf, peakOf, made, meant};
+ghost use Rattle.kinds.specs.Making.{faultNumber, rateOf, toleranceOf, burstOf, looseBurstOf, excessOf, peakOf, made, meant, wordOf, wordBought};
+ghost use Rattle.std.specs.Vec.{made as onOk};
 ghost use Rattle.kinds.specs.declared.profiles.Profile.the-variants.{Vs, Tb, Sr, Tr};
 use crate::kinds::GRAINS_A_MICROSECOND;
 use crate::profiles::AnyMeter;
@@ -161,7 +162,8 @@ impl TwoRate {
 
 impl AnyMeter {
     pub fn new(profile: Profile) -> Result<AnyMeter, Fault>
-        ensures { λ r. ⌜ meant anyMeaning r ≡ made profile ⌝ }
+        ensures value { λ r. ⌜ meant anyMeaning r ≡ made profile ⌝ }
+        ensures kind { λ r. ⌜ onOk r (λ m. wordOf m ≡ wordBought profile) ⌝ }
     {
         match profile {
             Profile::Vs {
