@@ -21,7 +21,8 @@ pub trait Meter {
     fn state(&self) -> State
         ensures { λ r. ⌜ r ≡ meaning (now (self .entry)) ⌝ };
 
-    // Takes over the fills and moments of a sound state with this meter's terms.
+    // Takes over the fills and moments of a sound state with this meter's terms. Given any other state only the terms
+    // are promised.
     fn store(&mut self, state: State)
         ensures after { λ _. ⌜ (termsOf state ≡ termsOf (meaning (now (self .entry))) → Sound state → meaning (now (self .exit)) ≡ state) ⌝ }
         ensures terms { λ _. ⌜ termsOf (meaning (now (self .exit))) ≡ termsOf (meaning (now (self .entry))) ⌝ };
