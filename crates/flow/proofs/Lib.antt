@@ -1,0 +1,4 @@
+pub mod Chains
+pub mod Linked
+pub mod Grown
+pub mod MapLaws
