@@ -1,0 +1,5 @@
+pub mod Splits
+pub mod Numerals
+pub mod Reports
+pub mod Purchases
+pub mod Tellings
