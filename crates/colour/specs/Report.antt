@@ -2,6 +2,7 @@
 -- linesOn, lines: the lines of an input, behind a line that has begun, and from its start
 -- verdictOf, meterAfter, countsAfter: a line's verdict, and the meter and the counts that it leaves
 -- reported: the text for lines, from a meter, a number of lines and counts on; report: for a whole input
+-- noted, none: the counts after a packet, and at first
 -- Overflows, Noted: a sum that does not fit; what noting a packet answers and leaves
 -- textFrom: what a session has yet to write, by the input that it has yet to take
 -- Judged, Ended, Goes: what judging a line, ending it, and taking some bytes leave

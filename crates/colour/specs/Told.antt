@@ -3,7 +3,8 @@
 -- woven: each line's verdict, its own where it is at fault, else the next of the meter's answers
 -- numbered: the text of verdicts, behind a number of lines
 -- countIn, totals: the packets and bytes that were given one colour, and each colour
--- told: the text for a whole input; Told: that a text is it
+-- given: was a packet answered with a colour?; textOf: the text for lines and answers
+-- told: the text for a whole input
 -- Assumes nothing.
 use mathlib.Core.Path.{_≡_}
 use mathlib.Core.Bool.{Bool, true, false, cond}

