@@ -56,9 +56,9 @@ Puts t u k m = Put (rowsOf t) (t .used) (rowsOf u) (u .used) k m
 abbrev pub BadCount : ℕ → Type 0
 BadCount n = (n ≡ 0) ⊎ (mostRows < n)
 
--- no row is in use, and the rows are those that were lent
+-- there are rows, and no more than the most; they are those that were lent, and none is in use
 abbrev pub Fresh : {K M : Type 0} → (K → ℕ) → List (Row K M) → FlowTable K M → Type 0
-Fresh chain rows t = (rowsOf t ≡ rows) × (t .used ≡ 0) × Whole chain t
+Fresh chain rows t = (0 < length rows) × (length rows ≤ mostRows) × (rowsOf t ≡ rows) × (t .used ≡ 0) × Whole chain t
 
 -- A key without a row gets one, whichever; the number of rows in use grows by one. A key that has one, and any key
 -- where every row is in use, gets none, and nothing changes.

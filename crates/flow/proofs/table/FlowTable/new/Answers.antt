@@ -8,7 +8,7 @@ use Rattle.flow.proofs.table.FlowTable.new.Needs as need
 pub returns : need.returns
 returns g c =
     let whole = empty-sound _ (c .args .rows .now) (omega arith) in (
-      (refl, refl, whole),
+      (omega arith, omega arith, refl, refl, whole),
       record {
         whole = whole;
         count = refl;
