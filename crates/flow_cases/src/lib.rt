@@ -1,4 +1,5 @@
 // Flow tables on colliding keys and full rows, and beside the standard library's map.
+#![tactic(auto)]
 #[cfg(test)]
 mod tests {
     use flow::key::Key;

@@ -1,4 +1,5 @@
 // Frames with known answers: a published IPv4 header, and others whose checksums are worked out by hand.
+#![tactic(auto)]
 #[cfg(test)]
 mod frames;
 #[cfg(test)]

@@ -1,4 +1,5 @@
 // Policies as text: the example and the mistakes of docs/POLICY.md, and every word at its bounds.
+#![tactic(auto)]
 #[cfg(test)]
 mod tests {
     use meter::metering::Meter;

@@ -1,4 +1,5 @@
 // Packets, bytes and refusals of each node and of the line.
+#![tactic(auto)]
 pub mod laws;
 pub mod noting;
 pub mod rows;
