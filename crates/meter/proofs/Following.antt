@@ -1,9 +1,8 @@
 -- A bucket that follows some charges goes on to follow them with one more.
 -- Assumes nothing.
-use Rattle.std.proofs.Common.{◌≡◌, ℕ, ◌+◌, ◌-◌, ◌*◌, ◌≤◌, List, [], ◌∷◌, ◌++◌, refl, le_trans, le_refl, arith}
+use Rattle.std.proofs.Common.{◌≡◌, ℕ, ◌-◌, ◌*◌, ◌≤◌, List, [], ◌∷◌, ◌++◌, le_trans, le_refl, arith}
 use Rattle.meter.specs.declared.measures.Bucket.{Bucket}
-use Rattle.meter.specs.declared.measures.Limit.{Limit}
-use Rattle.meter.specs.Rules.{level, filled}
+use Rattle.meter.specs.Rules.{level}
 use Rattle.meter.specs.Windows.{Charge, charge_of, By, fill}
 use Rattle.meter.specs.Laws.{Follows, FollowsNone, FollowsCharge, FollowsSkip, FollowsFill}
 use Rattle.meter.proofs.Fill.{allowed_in_parts, allowed_at_once, fill_later, fill_charge}

@@ -1,6 +1,6 @@
 -- From an unused meter on, the buckets of a run follow its charges.
 -- Assumes nothing.
-use Rattle.std.proofs.Common.{◌≡◌, ℕ, ◌+◌, ◌<◌, ◌≤◌, Bool, true, false, cond, leb, List, [], ◌∷◌, ◌++◌, length, get_or, drop, Some, None, Ok, Err, Option, Result, sym, refl, ap, ◌∙◌, subst, append_assoc, append-nil, arith}
+use Rattle.std.proofs.Common.{◌≡◌, ℕ, ◌+◌, ◌<◌, ◌≤◌, Bool, true, false, cond, List, [], ◌∷◌, ◌++◌, length, get_or, drop, Some, None, Ok, Err, Option, sym, refl, ap, ◌∙◌, subst, append_assoc, append-nil, arith}
 use Rattle.std.proofs.lemmas.List.{at_drop_more}
 use Rattle.std.proofs.lemmas.Bool.{and_parts, leb-true}
 use Rattle.meter.specs.declared.measures.Arrival.{Arrival}
@@ -9,10 +9,9 @@ use Rattle.meter.specs.declared.measures.Colour.{Colour}
 use Rattle.meter.specs.declared.measures.Limit.{Limit}
 use Rattle.meter.specs.declared.measures.PacketColour.{PacketColour}
 use Rattle.meter.specs.declared.measures.PacketColour.TheVariants.{Green, Yellow, Red}
-use Rattle.meter.specs.declared.measures.Refusal.{Refusal}
 use Rattle.meter.specs.declared.measures.State.{State}
 use Rattle.meter.specs.declared.measures.Terms.{Terms}
-use Rattle.meter.specs.Rules.{cost, unless, level, green_level, green_room, green_filled, limit_of, fitting, counted, terms_of, unused, empty_green, largest_moment, Sound, SoundBucket, SoundGreen}
+use Rattle.meter.specs.Rules.{cost, green_level, green_room, green_filled, limit_of, fitting, terms_of, unused, empty_green, Sound, SoundGreen}
 use Rattle.meter.specs.Alone.{best_of, best_for, colour_of, coloured, charged_as, left_by, answers, left_all}
 use Rattle.meter.specs.Windows.{Charge, charge_of}
 use Rattle.meter.specs.Laws.{Follows, Filled}

@@ -12,8 +12,6 @@
 -- number_of: the number of each refusal
 -- Assumes nothing.
 use Rattle.std.specs.Prelude.{◌≡◌, ℕ, ◌+◌, ◌-◌, ◌*◌, ◌≤◌, Bool, true, false, cond, not, ◌&&◌, Some, None, Ok, Err, Option, Result, nat_le, nat_lt}
-use Rattle.meter.specs.declared.measures.Moment.{Moment}
-use Rattle.meter.specs.declared.measures.Size.{Size}
 use Rattle.meter.specs.declared.measures.Grains.{Grains}
 use Rattle.meter.specs.declared.measures.Colour.{Colour}
 use Rattle.meter.specs.declared.measures.Colour.TheVariants.{Green, Yellow}

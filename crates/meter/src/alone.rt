@@ -35,10 +35,10 @@ impl PacketColour {
 
 // Colours one packet and charges it; a red or a refused one leaves the meter as it was.
 pub fn colour_packet<M: Meter>(meter: &mut M, arrival: Arrival) -> Result<PacketColour, Refusal>
-    ensures value { result ≡ coloured (meaning meter.old) arrival }
-    ensures after { meaning meter.new ≡ left_by (meaning meter.old) arrival }
+    ensures value { result ≡ coloured (M.meaning meter.old) arrival }
+    ensures after { M.meaning meter.new ≡ left_by (M.meaning meter.old) arrival }
     ensures same { Untouched result meter.old meter.new }
-    ensures terms { terms_of (meaning meter.new) ≡ terms_of (meaning meter.old) }
+    ensures terms { terms_of (M.meaning meter.new) ≡ terms_of (M.meaning meter.old) }
 {
     let green = meter.ask(arrival.size, arrival.moment, Colour::Green)?;
     let yellow = meter.ask(arrival.size, arrival.moment, Colour::Yellow)?;
@@ -55,8 +55,8 @@ pub fn colour_all<M: Meter>(
     meter: &mut M,
     arrivals: &[Arrival],
 ) -> Result<Vec<Result<PacketColour, Refusal>>, AllocError>
-    ensures cases { MatchResult result (λ v. Ran meaning meter.old meter.new arrivals.now v.items) (λ _. meter.new ≡ meter.old) }
-    ensures terms { terms_of (meaning meter.new) ≡ terms_of (meaning meter.old) }
+    ensures cases { MatchResult result (λ v. Ran M.meaning meter.old meter.new arrivals.now v.items) (λ _. meter.new ≡ meter.old) }
+    ensures terms { terms_of (M.meaning meter.new) ≡ terms_of (M.meaning meter.old) }
 {
     let mut answers = Vec::with_capacity(heap, arrivals.len())?;
     for arrival in arrivals {

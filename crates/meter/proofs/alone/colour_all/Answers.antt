@@ -1,5 +1,5 @@
 -- Each turn takes one arrival off what is left.
-use Rattle.std.proofs.Common.{◌≡◌, ◌+◌, [], ◌∷◌, ◌++◌, drop, vec_items, sym, refl, ap, ◌∙◌, subst, append-nil, arith}
+use Rattle.std.proofs.Common.{◌≡◌, ◌+◌, [], ◌++◌, drop, vec_items, sym, ap, ◌∙◌, subst, append-nil, arith}
 use Rattle.std.proofs.lemmas.List.{at_drop_all}
 use Rattle.meter.specs.declared.measures.PacketColour.TheVariants.{Green}
 use Rattle.meter.specs.declared.measures.Arrival.{Arrival}
@@ -15,16 +15,16 @@ pub loop-arrival-preserved : goal.loop-arrival-preserved
 loop-arrival-preserved g c =
     let f = g.M.Meter.meaning in
     let m = f c.loop-arrival.meter in
-    let next = f c.colour-packet.new.meter in
+    let next = f c.colour_packet.new.meter in
     let arrivals = c.args.arrivals.now in
     let i = c.loop-arrival.arrival-index in
     let inv = c.loop-arrival.invariant in
-    let done = answers_more m next arrivals i none c.colour-packet.result c.loop-arrival-test.true c.colour-packet.ensures.value c.colour-packet.ensures.after (vec_items c.loop-arrival.answers) (answers (f c.args.meter.now) arrivals) inv.2 in (
-      omega (arith, c.push-reserved.ensures.len, inv.0),
-      omega (arith, c.push-reserved.ensures.capacity, inv.1),
-      done ∙ ap (λ l. l ++ answers next (drop (i + 1) arrivals)) (sym c.push-reserved.ensures.items),
-      inv.3 ∙ left_more m next arrivals i none c.colour-packet.result c.loop-arrival-test.true c.colour-packet.ensures.value c.colour-packet.ensures.after,
-      c.colour-packet.ensures.terms ∙ inv.4,
+    let done = answers_more m next arrivals i none c.colour_packet.result c.loop-arrival-test.true c.colour_packet.ensures.value c.colour_packet.ensures.after (vec_items c.loop-arrival.answers) (answers (f c.args.meter.now) arrivals) inv.2 in (
+      omega (arith, c.push_reserved.ensures.len, inv.0),
+      omega (arith, c.push_reserved.ensures.capacity, inv.1),
+      done ∙ ap (λ l. l ++ answers next (drop (i + 1) arrivals)) (sym c.push_reserved.ensures.items),
+      inv.3 ∙ left_more m next arrivals i none c.colour_packet.result c.loop-arrival-test.true c.colour_packet.ensures.value c.colour_packet.ensures.after,
+      c.colour_packet.ensures.terms ∙ inv.4,
     )
 
 pub returns : goal.returns

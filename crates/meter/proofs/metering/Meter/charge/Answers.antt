@@ -8,10 +8,10 @@ pub returns : goal.returns
 returns g c =
     let a = c.args in
     let m = g.Self.Meter.meaning a.self.now in
-    let next = c.in-ok-next.next in
+    let next = c.in_ok-next.next in
     let n = a.size.0 in
     let t = a.moment.0 in
-    let h : charged m n t a.colour ≡ Ok next = ap (λ x. charged x n t a.colour) (sym c.state.ensures) ∙ sym c.in-ok-next.ensures in
+    let h : charged m n t a.colour ≡ Ok next = ap (λ x. charged x n t a.colour) (sym c.state.ensures) ∙ sym c.in_ok-next.ensures in
     let kept = charged_terms m next n t a.colour h in
     let sound = charged_sound m next n t a.colour (g.met.Self.Meter.sound a.self.now) h in
     record { charged = h ∙ ap Ok (sym (c.store.ensures.after kept sound)); terms = c.store.ensures.terms }
