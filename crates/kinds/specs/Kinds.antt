@@ -5,7 +5,6 @@
 -- Assumes nothing.
 use Rattle.std.specs.Prelude.{ℕ, ◌+◌, ◌*◌, min, max, Some, None}
 use Rattle.meter.specs.declared.measures.Bucket.{Bucket}
-use Rattle.meter.specs.declared.measures.Grains.{Grains}
 use Rattle.meter.specs.declared.measures.State.{State}
 use Rattle.meter.specs.Rules.{grains}
 use Rattle.kinds.specs.declared.profiles.AnyMeter.{AnyMeter}

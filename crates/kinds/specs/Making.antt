@@ -6,7 +6,7 @@
 -- made: the unused meter of what was bought; meant: a result by the meaning of its meter
 -- Word, word_bought, word_of: the kind of a profile, and of a meter
 -- Assumes nothing.
-use Rattle.std.specs.Prelude.{ℕ, ◌+◌, ◌*◌, Bool, cond, ◌&&◌, Some, None, Ok, Err, Result, nat_le}
+use Rattle.std.specs.Prelude.{ℕ, ◌+◌, ◌*◌, cond, ◌&&◌, Some, None, Ok, Err, Result, nat_le}
 use Rattle.meter.specs.declared.measures.Limit.{Limit}
 use Rattle.meter.specs.declared.measures.State.{State}
 use Rattle.meter.specs.declared.measures.Terms.{Terms}
