@@ -1,5 +1,6 @@
 // A sixth meter, as an example: so many packets a second, whatever their size. Nothing above the interface knows of it.
 #![tactic(auto)]
+
 ghost use Rattle.std.specs.Prelude.{◌≡◌, IfOk};
 ghost use Rattle.meter.specs.Rules.{unused};
 ghost use Rattle.packet_rate.specs.Packets.{packet_meaning, packet_terms, PacketsWithin};
