@@ -1,6 +1,6 @@
 -- The unused meter of what was bought answers as its document does.
 -- Assumes nothing.
-use Rattle.std.proofs.Common.{◌≡◌, ℕ, Bool, true, false, cond, ◌&&◌, ltb, leb, List, [], ◌∷◌, Ok, Err, Result, sym, refl, ap, ◌∙◌, subst, arith}
+use Rattle.std.proofs.Common.{◌≡◌, ℕ, cond, ◌&&◌, ltb, leb, List, [], ◌∷◌, Ok, Err, Result, sym, refl, ap, ◌∙◌, arith}
 use Rattle.std.proofs.lemmas.List.{map-id}
 use Rattle.meter.specs.declared.measures.Arrival.{Arrival}
 use Rattle.meter.specs.declared.measures.Refusal.{Refusal}
@@ -8,7 +8,6 @@ use Rattle.meter.specs.declared.measures.State.{State}
 use Rattle.meter.specs.declared.measures.Terms.{Terms}
 use Rattle.meter.specs.Rules.{largest_size, largest_moment, unused}
 use Rattle.meter.specs.Alone.{answers}
-use Rattle.meter.specs.Runs.{Answer}
 use Rattle.kinds.specs.declared.profiles.Fault.{Fault}
 use Rattle.documents.specs.declared.modes.Mode.{Mode}
 use Rattle.documents.specs.declared.modes.Mode.TheVariants.{Blind, Aware}
@@ -16,7 +15,7 @@ use Rattle.kinds.specs.declared.profiles.Profile.{Profile}
 use Rattle.kinds.specs.declared.profiles.Profile.TheVariants.{Vs, Lb, Tb, Sr, Tr}
 use Rattle.documents.specs.Documents.{Outcome, at, stepped, as_green, greened, aware, blind, documented, sr_blind, sr_aware, tr_blind, tr_aware, full, Rising}
 use Rattle.documents.specs.Fresh.{seen}
-use Rattle.kinds.specs.Making.{and_then, rate_of, tolerance_of, burst_of, loose_burst_of, excess_of, peak_of, gcra_terms, token_terms, single_terms, two_terms, bought, fresh, made}
+use Rattle.kinds.specs.Making.{and_then, rate_of, tolerance_of, burst_of, loose_burst_of, excess_of, peak_of, gcra_terms, token_terms, single_terms, two_terms, bought, fresh}
 use Rattle.documents.proofs.Uncoloured.{vs_runs, lb_runs, tb_runs}
 use Rattle.documents.proofs.Single.{sr_runs}
 use Rattle.documents.proofs.Two.{tr_runs}

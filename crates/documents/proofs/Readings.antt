@@ -1,7 +1,7 @@
 -- A meter by its terms and the two fills that it has by a moment, and the run that such a reading gives.
 -- Assumes nothing.
-use Rattle.std.proofs.Common.{◌≡◌, ℕ, ◌+◌, ◌-◌, ◌*◌, ◌≤◌, Bool, true, false, cond, ◌&&◌, ltb, leb, List, [], ◌∷◌, Some, None, Ok, Err, Option, Result, sym, refl, ap, ◌∙◌, subst, le_trans, le_refl, arith}
-use Rattle.std.proofs.lemmas.Bool.{le-leb, and_parts, leb-true, ltb-true}
+use Rattle.std.proofs.Common.{◌≡◌, ℕ, ◌+◌, ◌-◌, ◌*◌, ◌≤◌, Bool, true, false, cond, ◌&&◌, ltb, leb, List, [], ◌∷◌, Some, None, Ok, Err, Option, sym, refl, ap, ◌∙◌, le_trans, le_refl, arith}
+use Rattle.std.proofs.lemmas.Bool.{le-leb}
 use Rattle.meter.specs.declared.measures.Arrival.{Arrival}
 use Rattle.meter.specs.declared.measures.Bucket.{Bucket}
 use Rattle.meter.specs.declared.measures.Colour.{Colour}
@@ -11,8 +11,8 @@ use Rattle.meter.specs.declared.measures.PacketColour.TheVariants.{Green, Yellow
 use Rattle.meter.specs.declared.measures.Refusal.{Refusal}
 use Rattle.meter.specs.declared.measures.State.{State}
 use Rattle.meter.specs.declared.measures.Terms.{Terms}
-use Rattle.meter.specs.Rules.{largest_size, largest_moment, level, green_level, limit_of, cost, fits_by, fitting, counted, filled, green_filled, terms_of, unless, unused, empty_green}
-use Rattle.meter.specs.Alone.{best_of, by_colour, best_for, colour_of, coloured, charged_as, left_by, answers}
+use Rattle.meter.specs.Rules.{largest_size, largest_moment, level, green_level, limit_of, cost, fits_by, fitting, counted, filled, green_filled, terms_of, unused, empty_green}
+use Rattle.meter.specs.Alone.{best_of, by_colour, best_for, colour_of, charged_as, answers}
 use Rattle.meter.specs.Runs.{Answer}
 use Rattle.meter.proofs.Keeps.{counted_terms}
 use Rattle.meter.proofs.Fill.{allowed_at_once}

@@ -1,6 +1,6 @@
 -- The single rate three colour marker against its token steps.
 -- Assumes nothing.
-use Rattle.std.proofs.Common.{◌≡◌, ℕ, ◌+◌, ◌-◌, ◌*◌, ◌<◌, ◌≤◌, min, Bool, true, false, cond, ◌&&◌, leb, List, Some, None, Ok, sym, refl, ap, ◌∙◌, arith}
+use Rattle.std.proofs.Common.{◌≡◌, ℕ, ◌+◌, ◌-◌, ◌*◌, ◌≤◌, Bool, true, false, cond, ◌&&◌, leb, List, Ok, refl, ap, ◌∙◌, arith}
 use Rattle.std.proofs.lemmas.Bool.{le-leb, leb-true}
 use Rattle.meter.specs.declared.measures.Arrival.{Arrival}
 use Rattle.meter.specs.declared.measures.Colour.{Colour}
@@ -9,10 +9,10 @@ use Rattle.meter.specs.declared.measures.PacketColour.TheVariants.{Green, Yellow
 use Rattle.meter.specs.declared.measures.State.{State}
 use Rattle.meter.specs.declared.measures.Terms.{Terms}
 use Rattle.meter.specs.Rules.{fitting, counted, cost, terms_of, unused}
-use Rattle.meter.specs.Alone.{best_of, by_colour, best_for, colour_of, charged_as, answers}
+use Rattle.meter.specs.Alone.{best_of, by_colour, colour_of, charged_as, answers}
 use Rattle.kinds.specs.Kinds.{grains_a_byte}
 use Rattle.kinds.specs.Making.{single_terms}
-use Rattle.documents.specs.Documents.{Outcome, at, tokens, Buckets, sr_filled, took, sr_blindly, sr_awarely, sr_aware, stepped, full, Rising}
+use Rattle.documents.specs.Documents.{Outcome, at, tokens, Buckets, sr_filled, took, sr_awarely, sr_aware, stepped, full, Rising}
 use Rattle.documents.proofs.Readings.{Reads, reads_later, reads_charged, reads_as, reads_fits, reads_none, best_by, runs}
 use Rattle.documents.proofs.Uncoloured.{same_test}
 

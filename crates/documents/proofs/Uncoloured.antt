@@ -1,18 +1,18 @@
 -- GCRA in its two forms and the token bucket, which know no colours, against their own steps.
 -- Assumes nothing.
-use Rattle.std.proofs.Common.{◌≡◌, ℕ, ◌+◌, ◌-◌, ◌*◌, ◌<◌, ◌≤◌, min, max, Bool, true, false, cond, not, ◌&&◌, ltb, leb, List, Some, None, Ok, Err, sym, refl, ap, ◌∙◌, arith}
-use Rattle.std.proofs.lemmas.Bool.{le-leb, lt-leb, leb-true, leb-false, ltb-true, ltb-false}
+use Rattle.std.proofs.Common.{◌≡◌, ℕ, ◌+◌, ◌-◌, ◌*◌, ◌<◌, ◌≤◌, min, max, Bool, true, false, ◌&&◌, leb, List, Ok, refl, ap, ◌∙◌, arith}
+use Rattle.std.proofs.lemmas.Bool.{le-leb, lt-leb, leb-true, leb-false}
 use Rattle.meter.specs.declared.measures.Arrival.{Arrival}
 use Rattle.meter.specs.declared.measures.Colour.{Colour}
 use Rattle.meter.specs.declared.measures.PacketColour.{PacketColour}
 use Rattle.meter.specs.declared.measures.PacketColour.TheVariants.{Green, Yellow, Red}
 use Rattle.meter.specs.declared.measures.State.{State}
 use Rattle.meter.specs.declared.measures.Terms.{Terms}
-use Rattle.meter.specs.Rules.{fitting, counted, cost, terms_of, fits_by, unused}
+use Rattle.meter.specs.Rules.{fitting, counted, cost, terms_of, unused}
 use Rattle.meter.specs.Alone.{best_of, by_colour, best_for, colour_of, charged_as, answers}
 use Rattle.kinds.specs.Kinds.{grains_a_byte}
 use Rattle.kinds.specs.Making.{gcra_terms, token_terms}
-use Rattle.documents.specs.Documents.{Outcome, at, tokens, uncoloured, vs_step, Leaky, drained, lb_step, Bucket, tb_step, stepped, Rising}
+use Rattle.documents.specs.Documents.{at, tokens, uncoloured, vs_step, Leaky, drained, lb_step, Bucket, tb_step, stepped, Rising}
 use Rattle.documents.proofs.Readings.{Reads, reads_later, reads_charged, reads_as, reads_fits, reads_none, best_by, runs}
 
 -- one test is as another, where each number decides the other

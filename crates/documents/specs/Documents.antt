@@ -5,7 +5,7 @@
 -- stepped: a run over a list of arrivals; documented: the run of what was bought
 -- Rising: arrivals whose moments never fall
 -- Assumes nothing.
-use Rattle.std.specs.Prelude.{ℕ, ◌+◌, ◌-◌, ◌*◌, ◌≤◌, min, max, Bool, true, false, cond, ◌&&◌, List, [], ◌∷◌, map, Ok, Err, Result, nat_le, nat_lt}
+use Rattle.std.specs.Prelude.{ℕ, ◌+◌, ◌-◌, ◌*◌, ◌≤◌, min, max, Bool, cond, ◌&&◌, List, [], ◌∷◌, map, Ok, Err, nat_le, nat_lt}
 use Rattle.meter.specs.declared.measures.Arrival.{Arrival}
 use Rattle.meter.specs.declared.measures.PacketColour.{PacketColour}
 use Rattle.meter.specs.declared.measures.PacketColour.TheVariants.{Green, Yellow, Red}

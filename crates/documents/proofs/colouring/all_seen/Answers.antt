@@ -1,5 +1,5 @@
 -- One packet more at the end.
-use Rattle.std.proofs.Common.{◌≡◌, [], ◌∷◌, ◌++◌, map, take, sym, ap, ◌∙◌}
+use Rattle.std.proofs.Common.{[], ◌∷◌, ◌++◌, take, sym, ap, ◌∙◌}
 use Rattle.std.proofs.lemmas.List.{map_more, take_all}
 use Rattle.meter.specs.declared.measures.Arrival.{Arrival}
 use Rattle.meter.specs.declared.measures.PacketColour.TheVariants.{Green}
@@ -11,7 +11,7 @@ none = record { moment = record { 0 = 0 }; size = record { 0 = 0 }; colour = Gre
 
 pub loop-arrival-preserved : goal.loop-arrival-preserved
 loop-arrival-preserved c =
-    c.in-ok-push.ensures.items
+    c.in_ok-push.ensures.items
     ∙ ap (λ l. l ++ (c.sees.result ∷ [])) c.loop-arrival.invariant
     ∙ ap (λ x. seen c.args.mode (take c.loop-arrival.arrival-index c.args.arrivals.now) ++ (x ∷ [])) c.sees.ensures
     ∙ sym (map_more (seen_by c.args.mode) c.args.arrivals.now c.loop-arrival.arrival-index none c.loop-arrival-test.true)
