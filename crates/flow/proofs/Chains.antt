@@ -1,7 +1,6 @@
 -- Lists of distinct numbers below a bound; rows under a write; a walk along a chain.
-use Rattle.std.proofs.Common.{◌≡◌, ℕ, zero, suc, ◌+◌, ◌<◌, ◌≤◌, false, ◌≢◌, ◌⊎◌, List, [], ◌∷◌, map, length, get_or, set, is_some, Some, None, Option, sym, refl, ap, ◌∙◌, subst, inl, inr, ⊎_elim, arith, length-set, get_or-set_other, get_or-set_same}
+use Rattle.std.proofs.Common.{◌≡◌, ℕ, zero, suc, ◌+◌, ◌<◌, ◌≤◌, false, ◌≢◌, ◌⊎◌, List, [], ◌∷◌, length, get_or, set, is_some, Some, None, Option, sym, refl, ap, ◌∙◌, subst, inl, inr, ⊎_elim, arith, length-set, get_or-set_other, get_or-set_same}
 use lib.ListN.{length-map, get_or-map}
-use lib.Seq.{map-set}
 use borrow.Rule.Slice.AtParam.{at_default, twice}
 use Rattle.std.proofs.lemmas.Bool.{cases_eq}
 use Rattle.flow.specs.declared.row.Row.{Row}

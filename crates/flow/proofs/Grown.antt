@@ -1,10 +1,10 @@
 -- A table with one more row, and with one row's meter replaced.
-use Rattle.std.proofs.Common.{◌≡◌, ℕ, zero, suc, ◌+◌, ◌<◌, ◌≤◌, ◌≢◌, ◌⊎◌, List, [], ◌∷◌, map, length, get_or, set, replicate, sym, refl, ap, ◌∙◌, subst, inl, inr, ⊎_elim, arith, length-set, get_or-set_other, get_or-set_same}
+use Rattle.std.proofs.Common.{◌≡◌, ℕ, ◌+◌, ◌<◌, ◌≤◌, ◌≢◌, List, [], length, get_or, set, replicate, sym, refl, ap, ◌∙◌, subst, ⊎_elim, arith, length-set}
 use lib.ListN.{length-map, get_or-replicate}
-use lib.Seq.{map-set, map-set_same}
+use lib.Seq.{map-set_same}
 use Rattle.std.proofs.lemmas.Bool.{cases_eq}
 use Rattle.flow.specs.declared.row.Row.{Row}
-use Rattle.flow.specs.Rows.{Among, Distinct, At, Keyed, Chain, Sound, Absent, Holds, Put, links_of}
+use Rattle.flow.specs.Rows.{At, Keyed, Sound, Absent, Put, links_of}
 use Rattle.flow.proofs.Chains.{at_same, at_other, at_kept, at_new}
 use Rattle.flow.proofs.Linked.{free_loose, linked_in}
 

@@ -1,11 +1,10 @@
 -- A loose row is linked in, in front of its new key's chain.
-use Rattle.std.proofs.Common.{◌≡◌, ℕ, zero, suc, ◌+◌, ◌<◌, ◌≤◌, Bool, true, false, cond, eqb, ◌≢◌, ◌⊎◌, List, [], ◌∷◌, map, length, get_or, set, sym, refl, ap, ◌∙◌, subst, inl, inr, ⊎_elim, arith, length-set, get_or-set_other, get_or-set_same}
-use lib.ListN.{length-map}
+use Rattle.std.proofs.Common.{◌≡◌, ℕ, ◌+◌, ◌<◌, cond, eqb, ◌≢◌, List, [], ◌∷◌, length, get_or, set, sym, ap, ◌∙◌, subst, inl, inr, ⊎_elim, arith, length-set, get_or-set_other, get_or-set_same}
 use lib.Seq.{map-set}
 use Rattle.std.proofs.lemmas.Bool.{cases_eq, cond_both, cond-true, eqb-true, eqb-false, eq-eqb}
 use Rattle.flow.specs.declared.row.Row.{Row}
-use Rattle.flow.specs.Rows.{Among, Distinct, At, Keyed, Chain, Sound, Loose, Absent, links_of}
-use Rattle.flow.proofs.Chains.{chain_below, at_same, link_at, at_other, at_kept, at_new}
+use Rattle.flow.specs.Rows.{Among, Distinct, At, Keyed, Chain, Sound, Loose, links_of}
+use Rattle.flow.proofs.Chains.{chain_below, at_same, link_at, at_other, at_new}
 
 -- a write to a row that does not stand in a chain leaves it
 pub chain_apart : (links : List ℕ) (used at i v : ℕ) (xs : List ℕ) → (Among i xs → ⊥) → Chain links used at xs → Chain (set links i v) used at xs

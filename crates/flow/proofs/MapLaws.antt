@@ -1,6 +1,6 @@
 -- The laws of the map, and the table that is one.
 -- Assumes nothing.
-use Rattle.std.proofs.Common.{◌≡◌, ℕ, ◌+◌, ◌<◌, ◌≤◌, Bool, true, false, cond, ◌&&◌, ◌||◌, eqb, ltb, ◌⊎◌, List, [], ◌∷◌, ◌++◌, length, get_or, drop, is_some, is_ok, Some, None, Ok, Err, Option, Result, sym, refl, ap, ◌∙◌, subst, inl, inr, ⊎_elim, append_assoc, arith}
+use Rattle.std.proofs.Common.{◌≡◌, ℕ, ◌+◌, ◌<◌, ◌≤◌, Bool, true, false, cond, ◌||◌, eqb, ltb, ◌⊎◌, List, [], ◌∷◌, ◌++◌, length, get_or, drop, is_some, is_ok, Some, None, Ok, Err, Option, Result, sym, refl, ap, ◌∙◌, subst, inl, inr, ⊎_elim, append_assoc, arith}
 use Rattle.std.proofs.lemmas.List.{at_drop_more}
 use Rattle.std.proofs.lemmas.Bool.{and_parts, and_from, eqb-true, eq-eqb, cases_Bool, lt-ltb, le-ltb}
 use Rattle.flow.specs.declared.row.Call.{Call}
@@ -9,8 +9,8 @@ use Rattle.flow.specs.declared.row.Row.{Row}
 use Rattle.flow.specs.declared.row.Unplaced.{Unplaced}
 use Rattle.flow.specs.declared.table.FlowTable.{FlowTable}
 use Rattle.flow.specs.Keys.{chain_of}
-use Rattle.flow.specs.Rows.{At, Keyed, Holds, Absent, Found, Put}
-use Rattle.flow.specs.Tables.{rows_of, Whole, Held, Missing, RowOf, Finds, Read, Replaces, Places, Puts}
+use Rattle.flow.specs.Rows.{At}
+use Rattle.flow.specs.Tables.{rows_of, Whole, Held, Missing, RowOf, Read, Replaces, Places, Puts}
 use Rattle.flow.specs.Maps.{same_bytes, Entry, entry, alike, lookup, put, Mapped, fits, reply_to, after_call, replies, after_all}
 
 same_true : (xs ys : List ℕ) → same_bytes xs ys ≡ true → xs ≡ ys

@@ -6,7 +6,7 @@
 -- Put: one key's meter is put, and nothing else changes
 -- Where a row stands and the order of a chain are free: nothing below names them to a caller.
 -- Assumes nothing.
-use Rattle.std.specs.Prelude.{◌≡◌, ℕ, ◌+◌, ◌<◌, ◌≤◌, ◌⊎◌, List, [], ◌∷◌, map, length, Some, None, Option, ◌≢◌, slice_index, slice_index_or}
+use Rattle.std.specs.Prelude.{◌≡◌, ℕ, ◌<◌, ◌≤◌, ◌⊎◌, List, [], ◌∷◌, map, length, Some, None, Option, ◌≢◌, slice_index, slice_index_or}
 use Rattle.flow.specs.declared.row.Row.{Row}
 use Rattle.flow.specs.Keys.{chain_count}
 

@@ -12,7 +12,7 @@ pub(crate) fn find_row<K: Key + Copy, M: Copy>(
     heads: &[u16; CHAINS],
     key: &K,
 ) -> Option<usize>
-    ensures { (used : ℕ) → Sound (λ k. chain_of (bytes k)) rows.now heads.now used → Found rows.now used key.now result }
+    ensures { (used : ℕ) → Sound (λ k. chain_of (K.bytes k)) rows.now heads.now used → Found rows.now used key.now result }
 {
     let mut at = heads[key.chain()] as usize;
     for turn in 0..rows.len() {

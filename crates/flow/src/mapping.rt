@@ -12,7 +12,7 @@ use std::alloc::{AllocError, Global};
 impl<K: Key + Copy, M: Copy> FlowTable<'_, K, M> {
     // The meter that is held for a key.
     pub fn get(&self, key: &K) -> Option<M>
-        ensures { (es : List (Entry K M)) → Mapped bytes self.now es → result ≡ lookup bytes es key.now }
+        ensures { (es : List (Entry K M)) → Mapped K.bytes self.now es → result ≡ lookup K.bytes es key.now }
     {
         match self.find(key) {
             Some(row) => self.meter(row),
@@ -24,7 +24,7 @@ impl<K: Key + Copy, M: Copy> FlowTable<'_, K, M> {
     pub fn put(&mut self, key: K, meter: M) -> bool
         ensures same { self.new.rows.ghost_name ≡ self.old.rows.ghost_name }
         ensures rows { length (rows_of self.new) ≡ length (rows_of self.old) }
-        ensures mapped { (es : List (Entry K M)) → Mapped bytes self.old es → (result ≡ fits bytes (length (rows_of self.old)) es key) × Mapped bytes self.new (if result then put bytes es key meter else es) }
+        ensures mapped { (es : List (Entry K M)) → Mapped K.bytes self.old es → (result ≡ fits K.bytes (length (rows_of self.old)) es key) × Mapped K.bytes self.new (if result then put K.bytes es key meter else es) }
     {
         match self.find(&key) {
             Some(row) => self.set(row, meter),
@@ -35,7 +35,7 @@ impl<K: Key + Copy, M: Copy> FlowTable<'_, K, M> {
     fn answer(&mut self, call: Call<K, M>) -> Reply<M>
         ensures same { self.new.rows.ghost_name ≡ self.old.rows.ghost_name }
         ensures rows { length (rows_of self.new) ≡ length (rows_of self.old) }
-        ensures mapped { (es : List (Entry K M)) → Mapped bytes self.old es → (result ≡ reply_to bytes (length (rows_of self.old)) es call) × Mapped bytes self.new (after_call bytes (length (rows_of self.old)) es call) }
+        ensures mapped { (es : List (Entry K M)) → Mapped K.bytes self.old es → (result ≡ reply_to K.bytes (length (rows_of self.old)) es call) × Mapped K.bytes self.new (after_call K.bytes (length (rows_of self.old)) es call) }
     {
         match call {
             Call::Look(key) => Reply::told(self.get(&key)),
@@ -46,7 +46,7 @@ impl<K: Key + Copy, M: Copy> FlowTable<'_, K, M> {
     // Answers a list of calls, one after another; want of memory is found before the first.
     pub fn serve(&mut self, heap: Global, calls: &[Call<K, M>]) -> Result<Vec<Reply<M>>, AllocError>
         ensures same { self.new.rows.ghost_name ≡ self.old.rows.ghost_name }
-        ensures served { MatchResult result (λ v. Served bytes self.old self.new calls.now v.items) (λ _. Same self.old self.new) }
+        ensures served { MatchResult result (λ v. Served K.bytes self.old self.new calls.now v.items) (λ _. Same self.old self.new) }
     {
         let mut replies = Vec::with_capacity(heap, calls.len())?;
         for call in calls {

@@ -34,7 +34,7 @@ pub struct FlowTable<'a, K, M> {
 impl<'a, K: Key + Copy, M: Copy> FlowTable<'a, K, M> {
     // An empty table over the rows, whose contents it leaves alone.
     pub fn new(rows: &'a mut [Row<K, M>]) -> Result<FlowTable<'a, K, M>, Refusal>
-        ensures { MatchResult result (λ t. Fresh (λ k. chain_of (bytes k)) rows.old t × Mapped bytes t []) (λ _. BadCount (length rows.old)) }
+        ensures { MatchResult result (λ t. Fresh (λ k. chain_of (K.bytes k)) rows.old t × Mapped K.bytes t []) (λ _. BadCount (length rows.old)) }
     {
         if rows.len() == 0 || rows.len() > MOST_ROWS {
             return Err(Refusal::BadRowCount);
@@ -55,7 +55,7 @@ impl<'a, K: Key + Copy, M: Copy> FlowTable<'a, K, M> {
 
     // The row that has the key.
     pub fn find(&self, key: &K) -> Option<usize>
-        ensures { Whole (λ k. chain_of (bytes k)) self.now → Finds self.now key.now result }
+        ensures { Whole (λ k. chain_of (K.bytes k)) self.now → Finds self.now key.now result }
     {
         links::find_row(self.rows, &self.heads, key)
     }
@@ -64,7 +64,7 @@ impl<'a, K: Key + Copy, M: Copy> FlowTable<'a, K, M> {
     pub fn insert(&mut self, key: K, meter: M) -> Result<usize, Unplaced>
         ensures same { self.new.rows.ghost_name ≡ self.old.rows.ghost_name }
         ensures rows { length (rows_of self.new) ≡ length (rows_of self.old) }
-        ensures places { Whole (λ k. chain_of (bytes k)) self.old → Places (λ k. chain_of (bytes k)) self.old self.new key meter result }
+        ensures places { Whole (λ k. chain_of (K.bytes k)) self.old → Places (λ k. chain_of (K.bytes k)) self.old self.new key meter result }
         ensures refused { Unchanged self.old self.new result }
     {
         if self.find(&key).is_some() {
@@ -96,7 +96,7 @@ impl<'a, K: Key + Copy, M: Copy> FlowTable<'a, K, M> {
     pub fn set(&mut self, row: usize, meter: M) -> bool
         ensures same { self.new.rows.ghost_name ≡ self.old.rows.ghost_name }
         ensures rows { length (rows_of self.new) ≡ length (rows_of self.old) }
-        ensures replaces { Whole (λ k. chain_of (bytes k)) self.old → Replaces (λ k. chain_of (bytes k)) self.old self.new row meter result }
+        ensures replaces { Whole (λ k. chain_of (K.bytes k)) self.old → Replaces (λ k. chain_of (K.bytes k)) self.old self.new row meter result }
         ensures refused { result ≡ false → Same self.old self.new }
     {
         if row >= self.used || row >= self.rows.len() {

@@ -26,7 +26,7 @@ out_bytes : (x : ℕ) (f b : List ℕ) (r : Result Packet Refusal) →
 out_bytes x f b (Err e) = tt
 out_bytes x f b (Ok p) = short (ltb (length b) (length f)) p
   where
-    same : (t : Bool) → IfOk {Y = Refusal} (Ok (cond t AsItCame Marked)) (λ w. written_of w f (left_by (Ok (cond t AsItCame Marked)) (marked f x) b) ≡ cond t f (marked f x))
+    same : (t : Bool) → IfOk {E = Refusal} (Ok (cond t AsItCame Marked)) (λ w. written_of w f (left_by (Ok (cond t AsItCame Marked)) (marked f x) b) ≡ cond t f (marked f x))
     same true = refl
     same false = take_at (marked f x) (drop (length (marked f x)) b) (length f) (length_marked f x)
 

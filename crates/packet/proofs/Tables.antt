@@ -1,6 +1,6 @@
 -- A test that a list passes, as a rule for each of its places.
 -- Assumes nothing.
-use Rattle.std.proofs.Common.{◌≡◌, ℕ, zero, suc, ◌<◌, Bool, true, not, ◌&&◌, eqb, ltb, List, [], ◌∷◌, length, get_or, sym, refl, ap, arith}
+use Rattle.std.proofs.Common.{◌≡◌, ℕ, zero, suc, ◌<◌, true, not, eqb, ltb, List, [], ◌∷◌, length, get_or, sym, refl, ap, arith}
 use Rattle.packet.specs.Codes.{all_below, absent, distinct}
 use Rattle.std.proofs.lemmas.Bool.{and_parts, ltb-true, eqb-false, not-true}
 

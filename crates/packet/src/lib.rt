@@ -1,5 +1,6 @@
 // What a packet is: the headers of a frame, the flow it belongs to, its mark, and the bytes that are written of it.
 #![tactic(auto)]
+
 mod checksum;
 pub mod codes;
 pub mod headers;

@@ -1,5 +1,6 @@
 // Frames with known answers: a published IPv4 header, and others whose checksums are worked out by hand.
 #![tactic(auto)]
+
 #[cfg(test)]
 mod frames;
 #[cfg(test)]

@@ -75,7 +75,7 @@ fn keys(rt: HostRuntime) -> Result<(), Fail> {
         Key::Station(station) => {
             assert_eq!(rt; station.source, [0x11, 0x12, 0x13, 0x14, 0x15, 0x16]);
             Ok(())
-        },
+        }
     }
 }
 

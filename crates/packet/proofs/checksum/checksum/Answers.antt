@@ -5,4 +5,4 @@ use Rattle.packet.proofs.checksum.checksum.Goals as goal
 
 pub returns : goal.returns
 returns c =
-    checksum_is c.args.header.now c.other-sum.result c.folded.result (λ i. omega (arith, c.type-inv.header i)) c.other-sum.ensures c.folded.ensures
+    checksum_is c.args.header.now c.other_sum.result c.folded.result (λ i. omega (arith, c.type_inv.header i)) c.other_sum.ensures c.folded.ensures

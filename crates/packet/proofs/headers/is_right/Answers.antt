@@ -9,5 +9,5 @@ returns-then-length-total c =
     let p = c.args.packet.now in
     let whole : header_length p - 0 ≡ header_length p = omega arith in
     let sum : c.checksum.result ≡ checksum_of (header_bytes p) = c.checksum.ensures ∙ ap (λ n. checksum_of (take n p)) whole in
-    let stored : c.u16-at-stored.result ≡ field16 p 10 = c.u16-at-stored.ensures in
+    let stored : c.u16_at-stored.result ≡ field16 p 10 = c.u16_at-stored.ensures in
     simp (stored, sum) (sym (right_by_checksum p (record { version = omega arith; words = omega arith; there = omega arith; total = omega arith })))

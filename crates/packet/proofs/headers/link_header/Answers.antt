@@ -11,5 +11,5 @@ returns c =
       long = omega (arith, ltb-false);
       packet_is = take_rest f 14;
       source_is = source_is f (omega (arith, ltb-false));
-      kind_is = c.from-be-bytes.ensures;
+      kind_is = c.from_be_bytes.ensures;
     }

@@ -11,20 +11,20 @@ use Rattle.packet.proofs.marking.mark.Goals as goal
 pub returns-then-buffer-frame : goal.returns-then-buffer-frame
 returns-then-buffer-frame c =
     let a = c.args in
-    too_short a.marks.now a.class a.colour a.frame.now a.buffer.now c.in-ok-packet.packet c.in-ok-packet.ensures c.if-buffer-frame.true
+    too_short a.marks.now a.class a.colour a.frame.now a.buffer.now c.in_ok-packet.packet c.in_ok-packet.ensures c.if-buffer-frame.true
 
-pub returns-in-default : goal.returns-in-default
-returns-in-default c =
+pub returns-in_default : goal.returns-in_default
+returns-in_default c =
     let a = c.args in
-    as_it_came a.marks.now a.class a.colour a.frame.now a.buffer.now c.in-ok-packet.packet c.in-ok-packet.ensures c.if-buffer-frame.false
-    (c.in-default.ensures ∙ ap (λ x. chosen x c.in-ok-packet.packet) c.code-of-code.ensures.value)
+    as_it_came a.marks.now a.class a.colour a.frame.now a.buffer.now c.in_ok-packet.packet c.in_ok-packet.ensures c.if-buffer-frame.false
+    (c.in_default.ensures ∙ ap (λ x. chosen x c.in_ok-packet.packet) c.code_of-code.ensures.value)
 
-pub put-mark-requires : goal.put-mark-requires
-put-mark-requires c =
+pub put_mark-requires : goal.put_mark-requires
+put_mark-requires c =
     let f = c.args.frame.now in
     record {
-      right = ap (λ g. header_right (packet_of g)) c.copy-from-slice.ensures.after ∙ marked_right f c.code-of-code.result c.in-ok-packet.packet c.in-ok-packet.ensures c.in-Marked.ensures;
-      small = c.code-of-code.ensures.bound;
+      right = ap (λ g. header_right (packet_of g)) c.copy_from_slice.ensures.after ∙ marked_right f c.code_of-code.result c.in_ok-packet.packet c.in_ok-packet.ensures c.in-Marked.ensures;
+      small = c.code_of-code.ensures.bound;
     }
 
 pub returns : goal.returns
@@ -33,12 +33,12 @@ returns c =
     let m = a.marks.now in
     let f = a.frame.now in
     let b = a.buffer.now in
-    let is = c.code-of-code.ensures.value in
-    let copy : c.put-mark.new.frame ≡ marked f (code m a.class a.colour) =
-    c.put-mark.ensures ∙ ap (λ g. marked g c.code-of-code.result) c.copy-from-slice.ensures.after ∙ ap (marked f) is in
+    let is = c.code_of-code.ensures.value in
+    let copy : c.put_mark.new.frame ≡ marked f (code m a.class a.colour) =
+    c.put_mark.ensures ∙ ap (λ g. marked g c.code_of-code.result) c.copy_from_slice.ensures.after ∙ ap (marked f) is in
     let whole : length f - 0 ≡ length f = omega arith in
-    let left : c.put-mark.new.frame ++ post_of 0 (length f - 0) b ≡ marked f (code m a.class a.colour) ++ drop (length f) b =
+    let left : c.put_mark.new.frame ++ post_of 0 (length f - 0) b ≡ marked f (code m a.class a.colour) ++ drop (length f) b =
     ap (λ l. l ++ post_of 0 (length f - 0) b) copy ∙ ap (λ n. marked f (code m a.class a.colour) ++ drop n b) whole in
     subst (λ l. Marking m a.class a.colour f b l (Ok Marked)) (sym left)
-    (copied m a.class a.colour f b c.in-ok-packet.packet c.in-ok-packet.ensures c.if-buffer-frame.false
-    (c.in-Marked.ensures ∙ ap (λ x. chosen x c.in-ok-packet.packet) is))
+    (copied m a.class a.colour f b c.in_ok-packet.packet c.in_ok-packet.ensures c.if-buffer-frame.false
+    (c.in-Marked.ensures ∙ ap (λ x. chosen x c.in_ok-packet.packet) is))

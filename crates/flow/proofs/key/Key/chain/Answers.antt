@@ -1,4 +1,4 @@
-use Rattle.std.proofs.Common.{◌%◌, ◌<◌, length, take, fold, sym, ap, ◌∙◌, arith, take_all}
+use Rattle.std.proofs.Common.{◌%◌, ◌<◌, length, fold, ap, ◌∙◌, arith, take_all}
 use lib.Bits.{bit_xor}
 use Rattle.std.proofs.lemmas.List.Sums.{fold_more}
 use Rattle.flow.proofs.key.Key.chain.Goals as goal

@@ -13,7 +13,7 @@ returns-then-used-self g c =
       same = refl;
       rows = refl;
       places = λ s. (
-        none_found t.rows.now t.used c.args.key c.find.result c.if-is-some.ensures (c.find.ensures s),
+        none_found t.rows.now t.used c.args.key c.find.result c.if-is_some.ensures (c.find.ensures s),
         ⊎_elim (λ (h : length t.rows.now ≤ t.used). omega (arith, s.room)) (λ h. omega (arith, s.room, s.few, h.1)) c.then-used-self.either,
         (refl, refl, refl),
       );
@@ -32,7 +32,7 @@ returns g c =
       same = refl;
       rows = length-set rows t.used _;
       places = λ s.
-          let new = none_found rows t.used c.args.key c.find.result c.if-is-some.ensures (c.find.ensures s) in
+          let new = none_found rows t.used c.args.key c.find.result c.if-is_some.ensures (c.find.ensures s) in
           rw c.chain-chain.ensures (new, free, refl, grown_sound s row new free small refl, grown_put s row new free small refl, (omega arith, (row, at_new rows t.used row free, refl)));
       refused = tt;
     }

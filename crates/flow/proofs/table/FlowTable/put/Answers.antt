@@ -1,4 +1,3 @@
-use Rattle.std.proofs.Common.{◌≡◌, Bool, cond, sym, subst}
 use Rattle.flow.proofs.MapLaws.{set_mapped, insert_mapped}
 use Rattle.flow.proofs.table.FlowTable.put.Goals as goal
 
@@ -15,5 +14,5 @@ returns-in-None g c =
     record {
       same = c.insert.ensures.same;
       rows = c.insert.ensures.rows;
-      mapped = λ es a. rw c.is-ok.ensures.value (insert_mapped g.K.Key.bytes g.met.K.Key.told c.args.self.now es a c.args.key c.insert.new.self c.args.meter c.insert.result (c.in-None.ensures a.whole) (c.insert.ensures.places a.whole));
+      mapped = λ es a. rw c.is_ok.ensures.value (insert_mapped g.K.Key.bytes g.met.K.Key.told c.args.self.now es a c.args.key c.insert.new.self c.args.meter c.insert.result (c.in-None.ensures a.whole) (c.insert.ensures.places a.whole));
     }

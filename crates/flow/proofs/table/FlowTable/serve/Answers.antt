@@ -1,5 +1,5 @@
 -- Each turn takes one call off what is left.
-use Rattle.std.proofs.Common.{◌≡◌, ◌+◌, List, [], ◌∷◌, ◌++◌, length, drop, vec_items, sym, ap, ◌∙◌, subst, append-nil, arith}
+use Rattle.std.proofs.Common.{◌≡◌, ◌+◌, [], ◌++◌, length, drop, vec_items, sym, ap, ◌∙◌, subst, append-nil, arith}
 use Rattle.std.proofs.lemmas.List.{at_drop_all}
 use Rattle.flow.specs.Maps.{Mapped, reply_to, after_call, replies, after_all}
 use Rattle.flow.specs.Tables.{rows_of}
@@ -15,8 +15,8 @@ loop-call-preserved g c =
     let call = c.call-item.result in
     let inv = c.loop-call.invariant in
     let before = vec_items c.loop-call.replies in (
-      omega (arith, c.push-reserved.ensures.len, inv.0),
-      omega (arith, c.push-reserved.ensures.capacity, inv.1),
+      omega (arith, c.push_reserved.ensures.len, inv.0),
+      omega (arith, c.push_reserved.ensures.capacity, inv.1),
       c.answer.ensures.same ∙ inv.2,
       c.answer.ensures.rows ∙ inv.3,
       λ es a.
@@ -27,7 +27,7 @@ loop-call-preserved g c =
             after_call bytes rows now call,
             next,
             replies_more bytes rows now calls i call c.loop-call-test.true c.call-item.is c.answer.result reply before (replies bytes rows es calls) said
-                ∙ ap (λ l. l ++ replies bytes rows (after_call bytes rows now call) (drop (i + 1) calls)) (sym c.push-reserved.ensures.items),
+                ∙ ap (λ l. l ++ replies bytes rows (after_call bytes rows now call) (drop (i + 1) calls)) (sym c.push_reserved.ensures.items),
             left ∙ after_more bytes rows now calls i call c.loop-call-test.true c.call-item.is,
           ),
     )

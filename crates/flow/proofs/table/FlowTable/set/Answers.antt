@@ -1,5 +1,5 @@
 -- Only the meter of that row is written.
-use Rattle.std.proofs.Common.{◌≡◌, ℕ, ◌<◌, ◌≤◌, length, get_or, set, sym, refl, ap, ◌∙◌, subst, arith, length-set}
+use Rattle.std.proofs.Common.{◌≡◌, ℕ, ◌<◌, length, get_or, set, refl, ap, ◌∙◌, subst, arith, length-set}
 use borrow.Rule.Slice.AtParam.{twice}
 use Rattle.flow.specs.declared.row.Row.{Row}
 use Rattle.flow.specs.Rows.{Put, At}

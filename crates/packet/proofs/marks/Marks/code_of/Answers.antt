@@ -9,9 +9,9 @@ pub returns : goal.returns
 returns c =
     let m = c.args.self.now in
     let k = c.args.class in
-    let e : get_or m.codes c.place-of.result 0 ≡ code m k c.args.colour = ap (λ i. get_or m.codes i 0) c.place-of.ensures.value in
+    let e : get_or m.codes c.place_of.result 0 ≡ code m k c.args.colour = ap (λ i. get_or m.codes i 0) c.place_of.ensures.value in
     record {
       value = e;
-      bound = below_at 64 m.codes m.small c.place-of.result (omega (arith, m.twelve, c.place-of.ensures.bound));
+      bound = below_at 64 m.codes m.small c.place_of.result (omega (arith, m.twelve, c.place_of.ensures.bound));
       back = ap (colour_of m) e ∙ colour_of_code m k c.args.colour;
     }
