@@ -5,12 +5,11 @@
 -- Placed: a parent under which the tree may have one node more
 -- Kept: nothing changed; NodeAdded, RuleAdded: what adding comes to
 -- Assumes nothing.
-use Rattle.std.specs.Prelude.{◌≡◌, ℕ, ◌+◌, ◌<◌, ◌≤◌, Bool, cond, ◌&&◌, List, [], ◌∷◌, ◌++◌, length, Some, None, Ok, Err, vec_items, Option, Result, ◌==◌, nat_le, nat_lt}
+use Rattle.std.specs.Prelude.{◌≡◌, ℕ, ◌+◌, ◌<◌, ◌≤◌, cond, ◌&&◌, List, [], ◌∷◌, ◌++◌, length, Some, None, Ok, Err, vec_items, Option, Result, ◌==◌, nat_le, nat_lt}
 use Rattle.policy.specs.declared.rules.AddError.{AddError}
 use Rattle.policy.specs.declared.rules.AddError.TheVariants.{Refused, NoMemory}
 use Rattle.policy.specs.declared.rules.Refusal.{Refusal}
 use Rattle.policy.specs.declared.rules.Refusal.TheVariants.{WrongNumber, UnknownParent, TooDeep, TooManyNodes, TooManyRules}
-use Rattle.policy.specs.declared.rules.Rule.{Rule}
 use Rattle.policy.specs.declared.rules.Selector.{Selector}
 use Rattle.policy.specs.declared.tree.Tree.{Tree}
 use Rattle.policy.specs.declared.policies.Policy.{Policy}

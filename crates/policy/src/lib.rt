@@ -1,5 +1,6 @@
 // What was agreed: nodes under one another, each with a meter, and the rules that put a flow under a node.
 #![tactic(auto)]
+
 pub mod adding;
 pub mod matching;
 pub mod nodes;

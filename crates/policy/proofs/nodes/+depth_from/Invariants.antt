@@ -1,4 +1,4 @@
 use Rattle.policy.proofs.nodes.+depth_from.Given as goal
 
-abbrev pub decreases-depth-from : goal.decreases-depth-from
-decreases-depth-from l = l.node
+abbrev pub decreases-depth_from : goal.decreases-depth_from
+decreases-depth_from l = l.node

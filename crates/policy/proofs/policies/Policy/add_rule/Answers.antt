@@ -5,18 +5,14 @@ use Rattle.policy.proofs.Pushed.{rules_under}
 use Rattle.policy.proofs.Taken.{rule_room_taken}
 use Rattle.policy.proofs.policies.Policy.add_rule.Goals as goal
 
-pub invariant-of-self : goal.invariant-of-self
-invariant-of-self g c =
+pub invariant_of-self : goal.invariant_of-self
+invariant_of-self g c =
     let p = c.args.self.now in
-    let room = rule_room_taken (length (vec_items p.rules)) c.in-ok-rule-room.field-0 c.in-ok-rule-room.ensures in
-    let known = c.in-ok-parent.ensures.known in
-    let row : Rule g.row.M.Denot = record { selector = c.args.selector; parent = c.in-ok-parent.parent; meter = c.args.meter } in (
-      p.beside,
-      (
-        omega (arith, room, c.push.ensures.len),
-        (
-          rules_under (vec_len p.tree.parents) (vec_items p.rules) (vec_items c.push.new.self) row (is_ok c.push.result) c.push.ensures.items p.under (omega (arith, known)),
-          tt,
-        ),
-      ),
-    )
+    let room = rule_room_taken (length (vec_items p.rules)) c.in_ok-rule_room.field-0 c.in_ok-rule_room.ensures in
+    let known = c.in_ok-parent.ensures.known in
+    let row : Rule g.row.M.Denot = record { selector = c.args.selector; parent = c.in_ok-parent.parent; meter = c.args.meter } in
+    record {
+      beside = p.beside;
+      few = omega (arith, room, c.push.ensures.len);
+      under = rules_under (vec_len p.tree.parents) (vec_items p.rules) (vec_items c.push.new.self) row (is_ok c.push.result) c.push.ensures.items p.under (omega (arith, known));
+    }
