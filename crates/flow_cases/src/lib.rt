@@ -1,5 +1,6 @@
 // Flow tables on colliding keys and full rows, and beside the standard library's map.
 #![tactic(auto)]
+
 #[cfg(test)]
 mod tests {
     use flow::key::Key;
@@ -84,7 +85,7 @@ mod tests {
             Err(refusal) => {
                 assert_eq!(rt; refusal.number(), 8);
                 Ok(())
-            },
+            }
         }
     }
 
