@@ -4,7 +4,7 @@
 #[cfg(test)]
 mod tests {
     use flow::key::Key;
-    use flow::row::{Refusal, Row, Unplaced};
+    use flow::row::{Row, Unplaced};
     use flow::table::FlowTable;
     use packet::kinds::{Address, Conversation, Station};
     use std::collections::BTreeMap;
