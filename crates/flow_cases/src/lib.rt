@@ -1,9 +1,10 @@
 // Flow tables on colliding keys and full rows, and beside the standard library's map.
 #![tactic(auto)]
+
 #[cfg(test)]
 mod tests {
     use flow::key::Key;
-    use flow::row::{Refusal, Row, Unplaced};
+    use flow::row::{Row, Unplaced};
     use flow::table::FlowTable;
     use packet::kinds::{Address, Conversation, Station};
     use std::collections::BTreeMap;
@@ -84,7 +85,7 @@ mod tests {
             Err(refusal) => {
                 assert_eq!(rt; refusal.number(), 8);
                 Ok(())
-            },
+            }
         }
     }
 

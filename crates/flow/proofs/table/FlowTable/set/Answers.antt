@@ -1,5 +1,5 @@
 -- Only the meter of that row is written.
-use Rattle.std.proofs.Common.{◌≡◌, ℕ, ◌<◌, length, get_or, set, refl, ap, ◌∙◌, subst, arith, length-set}
+use Rattle.std.proofs.Common.{◌<◌, length, get_or, set, refl, ap, ◌∙◌, subst}
 use borrow.Rule.Slice.AtParam.{twice}
 use Rattle.flow.specs.declared.row.Row.{Row}
 use Rattle.flow.specs.Rows.{Put, At}
@@ -7,8 +7,8 @@ use Rattle.flow.proofs.Chains.{at_same}
 use Rattle.flow.proofs.Grown.{keyed_on, metered_sound, metered_put}
 use Rattle.flow.proofs.table.FlowTable.set.Goals as goal
 
-pub returns : goal.returns
-returns g c =
+pub returns-clause-replaces : goal.returns-clause-replaces
+returns-clause-replaces g c s =
     let t = c.args.self.now in
     let rows = t.rows.now in
     let i = c.args.row in
@@ -16,16 +16,10 @@ returns g c =
     let row : Row g.row.K.Denot g.row.M.Denot = record { key = old.key; meter = c.args.meter; next = old.next } in
     let h : i < length rows = c.if-row-self-2.false in
     let a : At rows i old = (h, twice rows i c.index-self-row.result) in
-    let used : i < t.used = c.if-row-self.false in
-    record {
-      same = refl;
-      rows = length-set rows i _;
-      replaces = λ s. (
-        used,
-        metered_sound s i old row a refl refl,
-        refl,
-        λ j k y. (y.0, keyed_on s i old row a refl refl j k y.1),
-        λ k y. subst (λ x. Put rows t.used (set rows i row) t.used x c.args.meter) (ap (λ r. r.key) (at_same rows i old y.1.0 a y.1.1) ∙ y.1.2) (metered_put s i old row a refl refl used),
-      );
-      refused = λ e. let z : ◌≡◌ {A = ℕ} 0 1 = cc in absurd (omega arith);
-    }
+    let used : i < t.used = c.if-row-self.false in (
+      used,
+      metered_sound s i old row a refl refl,
+      refl,
+      λ j k y. (y.0, keyed_on s i old row a refl refl j k y.1),
+      λ k y. subst (λ x. Put rows t.used (set rows i row) t.used x c.args.meter) (ap (λ r. r.key) (at_same rows i old y.1.0 a y.1.1) ∙ y.1.2) (metered_put s i old row a refl refl used),
+    )
