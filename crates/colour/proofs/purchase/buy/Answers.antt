@@ -1,7 +1,7 @@
-use Rattle.std.proofs.Common.{◌≡◌, ℕ, sym, ap, ◌∙◌, arith}
+use Rattle.std.proofs.Common.{◌≡◌, ℕ, sym, ap, arith}
 use Rattle.meter.specs.Rules.{unused}
 use Rattle.kinds.specs.Kinds.{any_meaning}
-use Rattle.kinds.specs.Making.{fresh, made, meant}
+use Rattle.kinds.specs.Making.{fresh, meant}
 use Rattle.colour.proofs.Purchases.{profile_makes}
 use Rattle.colour.proofs.purchase.buy.Goals as goal
 

@@ -1,5 +1,5 @@
-use Rattle.std.proofs.Common.{◌≡◌, ◌<◌, ◌∷◌, length, take, drop, sym, ap, ◌∙◌, arith, true-eqb, false-eqb}
-use Rattle.colour.specs.Words.{blanks, word_length, words}
+use Rattle.std.proofs.Common.{◌<◌, ◌∷◌, length, take, drop, sym, ap, ◌∙◌, arith, true-eqb, false-eqb}
+use Rattle.colour.specs.Words.{word_length, words}
 use Rattle.colour.proofs.Splits.{words_first, words_none, blanks_within, word_within}
 use Rattle.colour.proofs.words.next_word.Goals as goal
 

@@ -1,6 +1,6 @@
-use Rattle.std.proofs.Common.{◌≡◌, ℕ, ◌+◌, List, [], ◌∷◌, ◌++◌, get_or, take, string_bytes, sym, ap, ◌∙◌, subst}
+use Rattle.std.proofs.Common.{[], ◌∷◌, ◌++◌, get_or, take, string_bytes, sym, ap, ◌∙◌}
 use Rattle.std.proofs.lemmas.List.{take_more, take_all}
-use Rattle.colour.specs.Report.{text_from, Goes}
+use Rattle.colour.specs.Report.{text_from}
 use Rattle.colour.proofs.Reports.{goes_on}
 use Rattle.colour.proofs.session.Session.feed.Goals as goal
 

@@ -1,4 +1,4 @@
-use Rattle.std.proofs.Common.{◌≡◌, ◌<◌, length, vec_items, string_bytes, arith}
+use Rattle.std.proofs.Common.{◌<◌, length, vec_items, string_bytes, arith}
 use Rattle.std.proofs.lemmas.Result.{IfOk-weaker}
 use Rattle.colour.proofs.Reports.{ended_goes, skipped_goes}
 use Rattle.colour.proofs.session.Session.take.Goals as goal
