@@ -1,5 +1,5 @@
 -- The bytes at hand, as some are passed and others come in.
-use Rattle.std.proofs.Common.{◌≡◌, ℕ, ◌+◌, ◌-◌, ◌^◌, ◌<◌, false, List, ◌++◌, length, drop, vec_items, vec_len, sym, ap, ◌∙◌, subst, arith}
+use Rattle.std.proofs.Common.{◌≡◌, ℕ, ◌+◌, ◌^◌, ◌<◌, false, List, ◌++◌, length, drop, vec_items, vec_len, sym, ap, ◌∙◌, subst, arith}
 use Rattle.std.proofs.lemmas.List.{length-drop, drop-drop}
 use Rattle.capture.specs.declared.blocks.Blocks.{Blocks}
 use Rattle.capture.specs.Reading.{takes, header_after, records_in, HandedOut, GoesOn}

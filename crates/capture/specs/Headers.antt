@@ -5,7 +5,7 @@
 -- HeaderFronts: the header that a file begins with, written, is the file's front
 -- HeaderReadsAs: bytes read as a header, whatever follows
 -- Assumes nothing.
-use Rattle.std.specs.Prelude.{◌≡◌, ℕ, ◌+◌, ◌^◌, ◌<◌, cond, ◌&&◌, List, ◌++◌, length, drop, Some, None, Ok, Err, Option, Result, ◌==◌, nat_lt}
+use Rattle.std.specs.Prelude.{◌≡◌, ℕ, ◌^◌, ◌<◌, cond, ◌&&◌, List, ◌++◌, length, drop, Some, None, Ok, Err, Option, Result, ◌==◌, nat_lt}
 use Rattle.capture.specs.declared.layout.Order.{Order}
 use Rattle.capture.specs.declared.layout.Order.TheVariants.{Little, Big}
 use Rattle.capture.specs.declared.layout.Refusal.{Refusal}

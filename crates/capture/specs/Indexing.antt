@@ -6,7 +6,7 @@
 -- Indexes: the index of a whole capture
 -- NotIndexed: why there is no index
 -- Assumes nothing.
-use Rattle.std.specs.Prelude.{◌≡◌, ℕ, ◌+◌, ◌^◌, ◌<◌, ◌≤◌, Bool, true, false, List, ◌++◌, map, length, Some, None, vec_items, Option}
+use Rattle.std.specs.Prelude.{◌≡◌, ℕ, ◌^◌, ◌<◌, ◌≤◌, Bool, true, false, List, ◌++◌, map, length, Some, None, vec_items, Option}
 use Rattle.capture.specs.declared.layout.Ending.{Ending}
 use Rattle.capture.specs.declared.layout.FeedError.{FeedError}
 use Rattle.capture.specs.declared.layout.FeedError.TheVariants.{Closed, TooLong, NoMemory}

@@ -1,5 +1,6 @@
 // Captures in the pcap file format: read and written in either byte order, whole or in blocks.
 #![tactic(auto)]
+
 pub mod blocks;
 pub mod feeding;
 pub mod headers;

@@ -1,5 +1,6 @@
 // Captures worked out by hand, read whole, cut and in blocks.
 #![tactic(auto)]
+
 #[cfg(test)]
 mod tests {
     use capture::blocks::Blocks;

@@ -1,5 +1,5 @@
 -- A profile that the words' checks passed makes a meter.
-use Rattle.std.proofs.Common.{◌≡◌, ℕ, ◌+◌, Bool, true, false, cond, ◌&&◌, leb, List, get_or, Some, None, Ok, Err, Option, Result, sym, refl, ap, ◌∙◌, subst, arith}
+use Rattle.std.proofs.Common.{◌≡◌, ℕ, ◌+◌, Bool, true, false, cond, ◌&&◌, leb, List, get_or, Some, None, Ok, Err, Option, Result, refl, ap, ◌∙◌, subst, arith}
 use Rattle.meter.specs.declared.measures.Terms.{Terms}
 use Rattle.kinds.specs.declared.profiles.Fault.{Fault}
 use Rattle.kinds.specs.declared.profiles.Fault.TheVariants.{BadRate, BadDepth, PeakBelowCommitted}

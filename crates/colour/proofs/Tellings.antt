@@ -1,19 +1,17 @@
 -- The report is what is told of the meter's answers.
-use Rattle.std.proofs.Common.{◌≡◌, ℕ, ◌+◌, Bool, true, false, cond, List, [], ◌∷◌, ◌++◌, map, Ok, Err, Result, sym, refl, ap, ◌∙◌, append_assoc, arith}
+use Rattle.std.proofs.Common.{◌≡◌, ℕ, ◌+◌, List, [], ◌∷◌, ◌++◌, map, Ok, Err, Result, sym, refl, ap, ◌∙◌, append_assoc, arith}
 use Rattle.meter.specs.declared.measures.Arrival.{Arrival}
-use Rattle.meter.specs.declared.measures.PacketColour.{PacketColour}
 use Rattle.meter.specs.declared.measures.PacketColour.TheVariants.{Green, Yellow, Red}
 use Rattle.meter.specs.declared.measures.State.{State}
 use Rattle.meter.specs.Alone.{answers, coloured, left_by}
 use Rattle.meter.specs.Runs.{Answer}
 use Rattle.colour.specs.declared.entries.Count.{Count}
 use Rattle.colour.specs.declared.entries.Counts.{Counts}
-use Rattle.colour.specs.declared.entries.Verdict.{Verdict}
 use Rattle.colour.specs.declared.entries.Verdict.TheVariants.{Malformed}
 use Rattle.colour.specs.Arrivals.{arrival_of}
 use Rattle.colour.specs.Texts.{entry_text, counts_text}
-use Rattle.colour.specs.Report.{lines, zero, none, more, noted, verdict_by, verdict_of, meter_after, counted_by, counts_after, reported, report}
-use Rattle.colour.specs.Told.{arrivals_in, woven, numbered, count_in, totals, text_of, told}
+use Rattle.colour.specs.Report.{lines, none, more, verdict_by, verdict_of, meter_after, counted_by, counts_after, reported, report}
+use Rattle.colour.specs.Told.{arrivals_in, woven, numbered, count_in, totals, told}
 
 abbrev plus_count : Count → Count → Count
 plus_count c d = record { packets = c.packets + d.packets; bytes = c.bytes + d.bytes }

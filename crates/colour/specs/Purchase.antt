@@ -5,7 +5,7 @@
 -- gcra_of, token_of, single_of, committed_of, peaked_of: the numbers of each kind, from left to right
 -- profile_of: what words buy, or the first word at fault; Bought: the meter of that
 -- Assumes nothing.
-use Rattle.std.specs.Prelude.{◌≡◌, ℕ, ◌+◌, cond, List, [], ◌∷◌, length, Some, None, Ok, Err, codes, Option, Result, nat_lt, slice_index_or}
+use Rattle.std.specs.Prelude.{◌≡◌, ℕ, ◌+◌, cond, List, length, Some, None, Ok, Err, codes, Option, Result, nat_lt, slice_index_or}
 use Rattle.std.specs.Str.{bytes_eq}
 use Rattle.meter.specs.declared.measures.Terms.{Terms}
 use Rattle.meter.specs.Rules.{unused}

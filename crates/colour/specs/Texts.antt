@@ -4,7 +4,7 @@
 -- count_text: the packets and bytes of a colour; counts_text: those of each colour
 -- fault_text: the word of a meter that is refused
 -- Assumes nothing.
-use Rattle.std.specs.Prelude.{ℕ, List, [], ◌∷◌, ◌++◌, codes, decimal}
+use Rattle.std.specs.Prelude.{ℕ, List, ◌++◌, codes, decimal}
 use Rattle.meter.specs.declared.measures.PacketColour.{PacketColour}
 use Rattle.meter.specs.declared.measures.PacketColour.TheVariants.{Green, Yellow, Red}
 use Rattle.meter.specs.Rules.{number_of}

@@ -6,7 +6,7 @@
 -- given: was a packet answered with a colour?; text_of: the text for lines and answers
 -- told: the text for a whole input
 -- Assumes nothing.
-use Rattle.std.specs.Prelude.{◌≡◌, ℕ, ◌+◌, Bool, true, false, cond, List, [], ◌∷◌, ◌++◌, map, Ok, Err, Result}
+use Rattle.std.specs.Prelude.{ℕ, ◌+◌, Bool, true, false, cond, List, [], ◌∷◌, ◌++◌, map, Ok, Err, Result}
 use Rattle.meter.specs.declared.measures.Arrival.{Arrival}
 use Rattle.meter.specs.declared.measures.PacketColour.{PacketColour}
 use Rattle.meter.specs.declared.measures.PacketColour.TheVariants.{Green, Yellow, Red}

@@ -4,7 +4,7 @@
 -- words_on, words: the words of a text, behind a word that has begun, and from its start
 -- value: the number that decimal digits write; numeral: the number of a word, where it is one that fits 64 bits
 -- Assumes nothing.
-use Rattle.std.specs.Prelude.{ℕ, suc, ◌+◌, ◌-◌, ◌*◌, ◌^◌, Bool, true, false, cond, ◌&&◌, ◌||◌, List, [], ◌∷◌, ◌++◌, length, Some, None, Option, ◌==◌, nat_lt}
+use Rattle.std.specs.Prelude.{ℕ, suc, ◌+◌, ◌-◌, ◌*◌, ◌^◌, Bool, cond, ◌&&◌, ◌||◌, List, [], ◌∷◌, ◌++◌, length, Some, None, Option, ◌==◌, nat_lt}
 use Rattle.std.specs.Str.{all_ascii_digits}
 
 abbrev pub blank : ℕ → Bool

@@ -1,5 +1,6 @@
 // Colours the arrivals of standard input by one meter, which the arguments buy.
 #![tactic(auto)]
+
 mod arrivals;
 mod entries;
 mod purchase;

@@ -12,7 +12,7 @@ returns-in-None c =
     let p = c.args.place in
     let u = c.args.unread.now in
     let x = shown_next c.opening.result in
-    let small : Bytes u = λ i. (c.type-inv.unread i).fits in
+    let small : Bytes u = λ i. (c.type_inv.unread i).fits in
     let is : x ≡ next_of h closed p u = c.opening.ensures.value ∙ ap (λ k. next_of k closed p u) (sym c.in-None.is) in
     record {
       value = is;
@@ -28,7 +28,7 @@ returns-in-Some c =
     let p = c.args.place in
     let u = c.args.unread.now in
     let x = shown_next c.following.result in
-    let small : Bytes u = λ i. (c.type-inv.unread i).fits in
+    let small : Bytes u = λ i. (c.type_inv.unread i).fits in
     let is : x ≡ next_of h closed p u = c.following.ensures.value ∙ ap (λ k. next_of k closed p u) (sym c.in-Some.is) in
     record {
       value = is;

@@ -2,17 +2,17 @@ use Rattle.std.proofs.Common.{rules}
 use Rattle.colour.specs.Arrivals.{arrival_of}
 use Rattle.colour.proofs.arrivals.read_arrival.Goals as goal
 
-pub returns-then-line-gt-LONGEST-LINE : goal.returns-then-line-gt-LONGEST-LINE
+pub returns-then-line-gt-LONGEST_LINE : goal.returns-then-line-gt-LONGEST_LINE
 unfolding arrival_of
-returns-then-line-gt-LONGEST-LINE c = search rules
+returns-then-line-gt-LONGEST_LINE c = search rules
 
-pub returns-in-default : goal.returns-in-default
+pub returns-in_default : goal.returns-in_default
 unfolding arrival_of
-returns-in-default c = search rules
+returns-in_default c = search rules
 
-pub returns-in-default-number : goal.returns-in-default-number
+pub returns-in_default-number : goal.returns-in_default-number
 unfolding arrival_of
-returns-in-default-number c = search rules
+returns-in_default-number c = search rules
 
 pub returns : goal.returns
 unfolding arrival_of

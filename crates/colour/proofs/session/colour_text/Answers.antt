@@ -9,8 +9,8 @@ returns c =
     let s = c.new-session.result in
     let input = c.args.input.now in
     let is : string_bytes c.finish.new.out ≡ report (any_meaning c.args.meter) input =
-    c.in-ok-finish.ensures
-    ∙ sym (c.in-ok-feed.ensures [])
+    c.in_ok-finish.ensures
+    ∙ sym (c.in_ok-feed.ensures [])
     ∙ ap (λ l. l ++ text_from s (input ++ [])) c.new-out.ensures.bytes
     ∙ ap (text_from s) (append-nil input)
     ∙ c.new-session.ensures.value input in

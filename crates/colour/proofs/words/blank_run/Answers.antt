@@ -1,17 +1,17 @@
-use Rattle.std.proofs.Common.{◌≡◌, suc, ◌+◌, drop, sym, ◌∙◌, arith}
+use Rattle.std.proofs.Common.{suc, ◌+◌, drop, sym, ◌∙◌, arith}
 use Rattle.std.proofs.lemmas.List.{at_drop_more, at_drop_all}
 use Rattle.std.proofs.lemmas.Bool.{cond-true, cond-false}
 use Rattle.colour.specs.Words.{blanks}
 use Rattle.colour.proofs.words.blank_run.Goals as goal
 
-pub returns-then-not-is-blank : goal.returns-then-not-is-blank
-returns-then-not-is-blank c =
-    let here = at_drop_more blanks c.args.text.now c.loop-i.i 0 c.loop-i-test.true ∙ cond-false _ (suc (blanks (drop (c.loop-i.i + 1) c.args.text.now))) 0 (sym c.if-not-is-blank.ensures) in
+pub returns-then-not-is_blank : goal.returns-then-not-is_blank
+returns-then-not-is_blank c =
+    let here = at_drop_more blanks c.args.text.now c.loop-i.i 0 c.loop-i-test.true ∙ cond-false _ (suc (blanks (drop (c.loop-i.i + 1) c.args.text.now))) 0 (sym c.if-not-is_blank.ensures) in
     omega (arith, c.loop-i.invariant, here)
 
 pub loop-i-preserved : goal.loop-i-preserved
 loop-i-preserved c =
-    let here = at_drop_more blanks c.args.text.now c.loop-i.i 0 c.loop-i-test.true ∙ cond-true _ (suc (blanks (drop (c.loop-i.i + 1) c.args.text.now))) 0 (sym c.if-not-is-blank.ensures) in
+    let here = at_drop_more blanks c.args.text.now c.loop-i.i 0 c.loop-i-test.true ∙ cond-true _ (suc (blanks (drop (c.loop-i.i + 1) c.args.text.now))) 0 (sym c.if-not-is_blank.ensures) in
     omega (arith, c.loop-i.invariant, here)
 
 pub returns : goal.returns

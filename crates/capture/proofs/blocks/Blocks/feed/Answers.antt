@@ -5,15 +5,15 @@ use Rattle.capture.specs.Feeding.{unread_of}
 use Rattle.capture.proofs.Passing.{unread_fits, grown}
 use Rattle.capture.proofs.blocks.Blocks.feed.Goals as goal
 
-pub invariant-of-self : goal.invariant-of-self
-invariant-of-self c =
-    let all = c.in-ok-held.ensures.made in
+pub invariant_of-self : goal.invariant_of-self
+invariant_of-self c =
+    let all = c.in_ok-held.ensures.made in
     let count = ap length all in
     let parts = length-append c.unread-unread.result.now c.args.block.now in
-    let held = c.in-ok-held.held.ok.0 in (
-      omega arith,
-      (omega (arith, count, parts, held, c.if-block-end.false, unread_fits c.args.self.now, ap length c.unread-unread.ensures.value), tt),
-    )
+    record {
+      within = omega arith;
+      placed = omega (arith, count, parts, c.if-block-end.false, unread_fits c.args.self.now, ap length c.unread-unread.ensures.value);
+    }
 
 pub returns : goal.returns
 returns c =
@@ -23,5 +23,5 @@ returns c =
     let short : b.place + (length (unread_of b) + length block) < 2 ^ 64 =
     omega (arith, c.if-block-end.false, unread_fits b, ap length same) in
     record {
-      cases = grown b _ block c.if-self.false short refl refl refl (c.in-ok-held.ensures.made ∙ ap (λ l. l ++ block) same);
+      cases = grown b _ block c.if-self.false short refl refl refl (c.in_ok-held.ensures.made ∙ ap (λ l. l ++ block) same);
     }

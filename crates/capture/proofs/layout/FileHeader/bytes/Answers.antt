@@ -11,14 +11,14 @@ returns c =
     let h = c.args.self.now in
     let o = h.order in
     let is =
-    listed o magic c.word-bytes.result _ c.word-bytes.ensures.value
-    ∙ ap (λ l. word_bytes o magic ++ l) (listed_two o major_version c.half-bytes.result _ c.half-bytes.ensures.value
-    ∙ ap (λ l. half_bytes o major_version ++ l) (listed_two o minor_version c.half-bytes-2.result _ c.half-bytes-2.ensures.value
-    ∙ ap (λ l. half_bytes o minor_version ++ l) (listed o h.zone c.word-bytes-2.result _ c.word-bytes-2.ensures.value
-    ∙ ap (λ l. word_bytes o h.zone ++ l) (listed o h.accuracy c.word-bytes-3.result _ c.word-bytes-3.ensures.value
-    ∙ ap (λ l. word_bytes o h.accuracy ++ l) (listed o h.snap_length c.word-bytes-4.result _ c.word-bytes-4.ensures.value
-    ∙ ap (λ l. word_bytes o h.snap_length ++ l) (listed_last o ethernet c.word-bytes-5.result c.word-bytes-5.ensures.value)))))) in
-    let fit : Fit h = record { zone = c.word-bytes-2.ensures.bound; accuracy = c.word-bytes-3.ensures.bound; snap = c.word-bytes-4.ensures.bound } in
+    listed o magic c.word_bytes.result _ c.word_bytes.ensures.value
+    ∙ ap (λ l. word_bytes o magic ++ l) (listed_two o major_version c.half_bytes.result _ c.half_bytes.ensures.value
+    ∙ ap (λ l. half_bytes o major_version ++ l) (listed_two o minor_version c.half_bytes-2.result _ c.half_bytes-2.ensures.value
+    ∙ ap (λ l. half_bytes o minor_version ++ l) (listed o h.zone c.word_bytes-2.result _ c.word_bytes-2.ensures.value
+    ∙ ap (λ l. word_bytes o h.zone ++ l) (listed o h.accuracy c.word_bytes-3.result _ c.word_bytes-3.ensures.value
+    ∙ ap (λ l. word_bytes o h.accuracy ++ l) (listed o h.snap_length c.word_bytes-4.result _ c.word_bytes-4.ensures.value
+    ∙ ap (λ l. word_bytes o h.snap_length ++ l) (listed_last o ethernet c.word_bytes-5.result c.word_bytes-5.ensures.value)))))) in
+    let fit : Fit h = record { zone = c.word_bytes-2.ensures.bound; accuracy = c.word_bytes-3.ensures.bound; snap = c.word_bytes-4.ensures.bound } in
     record {
       value = is;
       again = λ rest. ap (λ l. header_of (l ++ rest)) is ∙ header_again h rest fit;

@@ -10,7 +10,7 @@ returns c =
     let o = c.args.order in
     let bs = c.args.bytes.now in
     let n = c.word-captured.result in
-    let small : Bytes bs = λ i. (c.type-inv.bytes i).fits in
+    let small : Bytes bs = λ i. (c.type_inv.bytes i).fits in
     let m-is = c.word-microseconds.ensures.value in
     let n-is = c.word-captured.ensures.value in
     let l-is = c.word-original.ensures.value in
@@ -18,7 +18,7 @@ returns c =
     ap (λ k. check_of k (word_at o bs 8) (word_at o bs 12)) (sym m-is)
     ∙ ap (λ k. check_of c.word-microseconds.result k (word_at o bs 12)) (sym n-is)
     ∙ ap (λ k. check_of c.word-microseconds.result n k) (sym l-is)
-    ∙ sym c.in-default.ensures.value in
+    ∙ sym c.in_default.ensures.value in
     let room : head_size + word_at o bs 8 ≤ length bs = omega (arith, n-is, c.if-bytes-end.false) in
     let at : at_hand o bs ≡ whole (entry_at o bs) = whole_at o bs passed room in
     let inner : (16 + n) - 16 ≡ word_at o bs 8 = omega (arith, n-is) in

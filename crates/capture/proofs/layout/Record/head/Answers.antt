@@ -12,13 +12,13 @@ returns c =
     let r = c.args.self.now in
     let n = length r.frame.now in
     let bytes =
-    listed o r.seconds c.word-bytes.result _ c.word-bytes.ensures.value
-    ∙ ap (λ l. word_bytes o r.seconds ++ l) (listed o r.microseconds c.word-bytes-2.result _ c.word-bytes-2.ensures.value
-    ∙ ap (λ l. word_bytes o r.microseconds ++ l) (listed o n c.word-bytes-3.result _ c.word-bytes-3.ensures.value
-    ∙ ap (λ l. word_bytes o n ++ l) (listed_last o r.original c.word-bytes-4.result c.word-bytes-4.ensures.value))) in
-    let good : Good (entry_of r) = record { seconds = c.word-bytes.ensures.bound; numbers = sym c.in-ok-check.ensures.value } in
+    listed o r.seconds c.word_bytes.result _ c.word_bytes.ensures.value
+    ∙ ap (λ l. word_bytes o r.seconds ++ l) (listed o r.microseconds c.word_bytes-2.result _ c.word_bytes-2.ensures.value
+    ∙ ap (λ l. word_bytes o r.microseconds ++ l) (listed o n c.word_bytes-3.result _ c.word_bytes-3.ensures.value
+    ∙ ap (λ l. word_bytes o n ++ l) (listed_last o r.original c.word_bytes-4.result c.word_bytes-4.ensures.value))) in
+    let good : Good (entry_of r) = record { seconds = c.word_bytes.ensures.bound; numbers = sym c.in_ok-check.ensures.value } in
     record {
-      value = ap (λ l. Ok l) bytes ∙ ap (λ x. head_if x o (entry_of r)) c.in-ok-check.ensures.value;
+      value = ap (λ l. Ok l) bytes ∙ ap (λ x. head_if x o (entry_of r)) c.in_ok-check.ensures.value;
       good = good;
       again = λ rest. ap (λ l. at_hand o ((l ++ r.frame.now) ++ rest)) bytes ∙ read_again o (entry_of r) rest good;
     }
