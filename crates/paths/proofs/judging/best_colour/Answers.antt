@@ -1,7 +1,6 @@
-use Rattle.std.proofs.Common.{◌≡◌, ℕ, Bool, ◌&&◌, map, get_or, sym, refl, ap, ◌∙◌}
+use Rattle.std.proofs.Common.{◌&&◌, map, get_or, sym, ◌∙◌}
 use Rattle.std.proofs.lemmas.Bool.{and_left, and_right, and_from}
-use Rattle.meter.specs.declared.measures.Colour.{Colour}
-use Rattle.meter.specs.declared.measures.Colour.TheVariants.{Green, Yellow}
+use Rattle.meter.specs.declared.measures.Colour.TheVariants.{Green}
 use Rattle.meter.specs.Alone.{allowed}
 use Rattle.paths.specs.Layers.{fits_at, all_of, colours}
 use Rattle.paths.proofs.Firsts.{all_on, all_out, all_end, first_on, first_is}

@@ -1,4 +1,4 @@
-use Rattle.std.proofs.Common.{◌≡◌, map, sym, ◌∙◌}
+use Rattle.std.proofs.Common.{map, sym, ◌∙◌}
 use Rattle.meter.specs.declared.measures.Colour.TheVariants.{Yellow}
 use Rattle.paths.specs.Layers.{fits_at}
 use Rattle.paths.proofs.Firsts.{low_on, low_is, low_end}
