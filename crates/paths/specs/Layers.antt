@@ -7,7 +7,7 @@
 -- lowest: the lowest layer that does not take it
 -- left_by: a meter after a charge; charged_node, charged_nodes: the nodes after a charge to one, and to each of a path
 -- Assumes nothing.
-use Rattle.std.specs.Prelude.{◌≡◌, ℕ, ◌+◌, ◌-◌, Bool, true, false, cond, ◌&&◌, List, [], ◌∷◌, take, Some, None, Ok, Err, Option, Result, ◌==◌, slice_set}
+use Rattle.std.specs.Prelude.{ℕ, ◌+◌, ◌-◌, Bool, true, false, cond, ◌&&◌, List, [], ◌∷◌, take, Some, None, Ok, Err, Option, Result, ◌==◌, slice_set}
 use Rattle.std.specs.List.{slice_get}
 use Rattle.meter.specs.declared.measures.Colour.{Colour}
 use Rattle.meter.specs.declared.measures.Colour.TheVariants.{Green, Yellow}

@@ -8,7 +8,7 @@ use meter::metering::Meter;
 
 // Charges the node of that number, if it is there; 0 is none.
 fn charge_node<M: Meter>(nodes: &mut [M], node: u8, load: Load, colour: Colour)
-    ensures { map meaning nodes.new ≡ charged_node load colour (map meaning nodes.old) node }
+    ensures { map M.meaning nodes.new ≡ charged_node load colour (map M.meaning nodes.old) node }
 {
     if node == 0 {
         return;
@@ -21,7 +21,7 @@ fn charge_node<M: Meter>(nodes: &mut [M], node: u8, load: Load, colour: Colour)
 
 // Charges each node of the path, one after another.
 pub fn charge_nodes<M: Meter>(nodes: &mut [M], path: &[u8], load: Load, colour: Colour)
-    ensures { map meaning nodes.new ≡ charged_nodes load colour (map meaning nodes.old) path.now }
+    ensures { map M.meaning nodes.new ≡ charged_nodes load colour (map M.meaning nodes.old) path.now }
 {
     for node in path {
         charge_node(nodes, *node, load, colour);
@@ -30,7 +30,7 @@ pub fn charge_nodes<M: Meter>(nodes: &mut [M], path: &[u8], load: Load, colour: 
 
 // Charges the flow's own meter.
 pub fn charge_flow<M: Meter>(flow: &mut M, load: Load, colour: Colour)
-    ensures { meaning flow.new ≡ left_by load colour (meaning flow.old) }
+    ensures { M.meaning flow.new ≡ left_by load colour (M.meaning flow.old) }
 {
     let _ = flow.charge(load.size, load.moment, colour);
 }

@@ -28,7 +28,7 @@ pub fn best_colour<M: Meter>(
     load: Load,
     arrival: PacketColour,
 ) -> Option<Colour>
-    ensures { result ≡ best (fits_at load (meaning flow.now) (map meaning nodes.now)) arrival path.now }
+    ensures { result ≡ best (fits_at load (M.meaning flow.now) (map M.meaning nodes.now)) arrival path.now }
 {
     'colours: for colour in [Colour::Green, Colour::Yellow] {
         if !is_allowed(arrival, colour) {
@@ -46,7 +46,7 @@ pub fn best_colour<M: Meter>(
 
 // The lowest layer that does not take the packet yellow.
 pub fn lowest_unfit<M: Meter>(flow: &M, nodes: &[M], path: &[u8], load: Load) -> Option<Place>
-    ensures { result ≡ lowest (fits_at load (meaning flow.now) (map meaning nodes.now) Colour.Yellow) 0 path.now }
+    ensures { result ≡ lowest (fits_at load (M.meaning flow.now) (map M.meaning nodes.now) Colour.Yellow) 0 path.now }
 {
     for (layer, node) in path.iter().enumerate() {
         if !fits_at(flow, nodes, *node, load, Colour::Yellow) {

@@ -23,7 +23,7 @@ pub struct Load {
 
 // Whether the meter of that number takes the packet; one that is not there takes none.
 pub fn fits_at<M: Meter>(flow: &M, nodes: &[M], node: u8, load: Load, colour: Colour) -> bool
-    ensures { result ≡ fits_one load colour (meter_at (meaning flow.now) (map meaning nodes.now) node) }
+    ensures { result ≡ fits_one load colour (meter_at (M.meaning flow.now) (map M.meaning nodes.now) node) }
 {
     if node == 0 {
         return flow.fits(load.size, load.moment, colour);
@@ -38,7 +38,7 @@ pub fn fits_at<M: Meter>(flow: &M, nodes: &[M], node: u8, load: Load, colour: Co
 
 // Whether a packet would lift a meter over its depth.
 fn is_over<M: Meter>(meter: &M, load: Load) -> bool
-    ensures { result ≡ over_in (asked (meaning meter.now) load.size.0 load.moment.0 Colour.Yellow) }
+    ensures { result ≡ over_in (asked (M.meaning meter.now) load.size.0 load.moment.0 Colour.Yellow) }
 {
     match meter.ask(load.size, load.moment, Colour::Yellow) {
         Ok(fit) => fit.over,
@@ -48,7 +48,7 @@ fn is_over<M: Meter>(meter: &M, load: Load) -> bool
 
 // Whether the packet would lift the meter of that number over its depth.
 pub fn over_at<M: Meter>(flow: &M, nodes: &[M], node: u8, load: Load) -> bool
-    ensures { result ≡ over_one load (meter_at (meaning flow.now) (map meaning nodes.now) node) }
+    ensures { result ≡ over_one load (meter_at (M.meaning flow.now) (map M.meaning nodes.now) node) }
 {
     if node == 0 {
         return is_over(flow, load);

@@ -10,7 +10,7 @@ loop-node-preserved g c =
     let j = c.loop-node.node-index in
     let rest = drop (j + 1) a.path.now in
     let d : charged_nodes a.load a.colour ms (drop j a.path.now) ≡ charged_nodes a.load a.colour (charged_node a.load a.colour ms (get_or a.path.now j 0)) rest = at_drop_more (charged_nodes a.load a.colour ms) a.path.now j 0 c.loop-node-test.true in
-    c.loop-node.invariant ∙ d ∙ sym (ap (λ x. charged_nodes a.load a.colour x rest) c.charge-node.ensures)
+    c.loop-node.invariant ∙ d ∙ sym (ap (λ x. charged_nodes a.load a.colour x rest) c.charge_node.ensures)
 
 pub returns : goal.returns
 returns g c =

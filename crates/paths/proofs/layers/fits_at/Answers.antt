@@ -7,7 +7,7 @@ pub returns-then-at-nodes : goal.returns-then-at-nodes
 returns-then-at-nodes g c =
     let a = c.args in
     let f = g.M.Meter.meaning in
-    c.fits.ensures ∙ sym (ap (fits_one a.load a.colour) (at_node (f a.flow.now) (map f a.nodes.now) a.node c.if-node-eq0.false ∙ nth_map f a.nodes.now (a.node - 1) c.index-nodes-at.result c.if-at-nodes.true c.index-nodes-at.is))
+    c.fits-then-at-nodes.ensures ∙ sym (ap (fits_one a.load a.colour) (at_node (f a.flow.now) (map f a.nodes.now) a.node c.if-node-eq0.false ∙ nth_map f a.nodes.now (a.node - 1) c.index-nodes-at.result c.if-at-nodes.true c.index-nodes-at.is))
 
 pub returns-else-at-nodes : goal.returns-else-at-nodes
 returns-else-at-nodes g c =

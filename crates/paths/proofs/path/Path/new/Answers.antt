@@ -1,4 +1,4 @@
-use Rattle.std.proofs.Common.{◌≡◌, ℕ, suc, ◌+◌, ◌-◌, ◌<◌, List, [], ◌∷◌, ◌++◌, length, take, set, sym, refl, ap, ◌∙◌, append_assoc, append-nil, arith, length-set}
+use Rattle.std.proofs.Common.{◌≡◌, ℕ, suc, ◌+◌, ◌-◌, ◌<◌, List, [], ◌∷◌, ◌++◌, length, take, set, sym, ap, ◌∙◌, append_assoc, append-nil, arith, length-set}
 use Rattle.std.proofs.lemmas.List.{take_more_set}
 use Rattle.policy.specs.Trees.{parent_of, upward}
 use Rattle.policy.proofs.Ancestry.{upward_none, upward_more}
@@ -22,7 +22,7 @@ pub loop-layer-preserved : goal.loop-layer-preserved
 loop-layer-preserved c =
     let pos : 0 < c.loop-layer.node = omega (arith, c.if-node-eq0.false) in
     let long = c.loop-layer.invariant.1 in (
-      more c.loop-layer.numbers c.args.parents.now c.loop-layer.layer c.loop-layer.node c.parent-of-node.result c.loop-layer-test.true (omega arith) pos c.parent-of-node.ensures ∙ c.loop-layer.invariant.0,
+      more c.loop-layer.numbers c.args.parents.now c.loop-layer.layer c.loop-layer.node c.parent_of-node.result c.loop-layer-test.true (omega arith) pos c.parent_of-node.ensures ∙ c.loop-layer.invariant.0,
       length-set c.loop-layer.numbers c.loop-layer.layer c.loop-layer.node ∙ long,
     )
 
