@@ -1,14 +1,12 @@
 -- Two keys are alike exactly if they are equal. Assumes nothing.
-use Rattle.std.proofs.Common.{◌≡◌, ℕ, Bool, true, false, ◌&&◌, eqb, List, Decides, sym, refl, ap, ◌∙◌, arith}
+use Rattle.std.proofs.Common.{◌≡◌, ℕ, Bool, true, false, Decides, sym, refl, ap, arith}
 use Rattle.std.proofs.lemmas.Slice.Eq.{bytes_eq-Decides}
 use Rattle.std.proofs.lemmas.Bool.{and_parts, and_from, eqb-true, eq-eqb}
-use Rattle.std.specs.Str.{bytes_eq}
-use Rattle.packet.specs.declared.kinds.Address.{Address}
 use Rattle.packet.specs.declared.kinds.Conversation as one
 use Rattle.packet.specs.declared.kinds.Station as other
 use Rattle.packet.specs.declared.kinds.Key.{Key}
 use Rattle.packet.specs.declared.kinds.Key.TheVariants.{Conversation, Station}
-use Rattle.history.specs.Histories.{alike, same_kind}
+use Rattle.history.specs.Histories.{alike}
 
 conversations_alike : (a b : one.Conversation) → Decides (alike (Conversation a) (Conversation b)) (Conversation a ≡ Conversation b)
 conversations_alike a b = (

@@ -1,5 +1,5 @@
 -- In a lawful history every window keeps to rate and depth. Assumes nothing.
-use Rattle.std.proofs.Common.{◌≡◌, ℕ, ◌+◌, ◌-◌, ◌*◌, ◌<◌, ◌≤◌, Bool, true, false, cond, not, ◌&&◌, eqb, ltb, leb, ◌⊎◌, List, [], ◌∷◌, ◌++◌, Some, None, Ok, Err, Option, Result, sym, refl, ap, ◌∙◌, subst, inl, inr, ⊎_elim, append_assoc, append-nil, arith}
+use Rattle.std.proofs.Common.{◌≡◌, ℕ, ◌+◌, ◌≤◌, Bool, true, false, cond, ltb, [], ◌∷◌, ◌++◌, Some, None, Ok, Err, Option, Result, sym, refl, ap, ◌∙◌, subst, ⊎_elim, append_assoc, append-nil, arith}
 use Rattle.std.proofs.lemmas.Bool.{cases_Bool, ne_eqb, and_parts, leb-true}
 use Rattle.meter.specs.declared.measures.Colour.{Colour}
 use Rattle.meter.specs.declared.measures.Colour.TheVariants.{Green, Yellow}
@@ -9,14 +9,13 @@ use Rattle.meter.specs.Rules.{cost, fits_by, green_room}
 use Rattle.meter.specs.Windows.{Charge, charge_of, By, fill, Admitted}
 use Rattle.meter.proofs.Fill.{fill_later, fill_charge}
 use Rattle.meter.proofs.Held.{windows_hold, admitted_none, admitted_push}
-use Rattle.packet.specs.declared.kinds.Key.{Key}
 use Rattle.history.specs.declared.answers.Refusal.{Refusal}
 use Rattle.history.specs.declared.answers.Refusal.TheVariants.{Backward, TableFull}
 use Rattle.history.specs.declared.answers.Answer.{Answer}
 use Rattle.history.specs.declared.answers.Answer.TheVariants.{Carried, Refused}
-use Rattle.history.specs.Answers.{is_carried, is_green, carried_green, judged}
-use Rattle.history.specs.Histories.{Config, Flow, Offer, Entry, History, entry_of, clock_of, charges_of, counts, counts_green, all_fill, fill_if, green_fill, meter_fits, on_node, on_flow, key_in, key_of, is_key, nodes_of, carried_key, keys_like, room, node_terms, flow_terms, fits_for, over_for, answer_for, answer_of, LawfulFrom, Lawful}
-use Rattle.history.specs.Windows.{green_windows, MeterWindows, AllWindows, WindowLaw}
+use Rattle.history.specs.Answers.{is_green, carried_green}
+use Rattle.history.specs.Histories.{Config, Flow, Offer, Entry, History, entry_of, clock_of, charges_of, counts, counts_green, fill_if, green_fill, meter_fits, on_node, on_flow, key_in, key_of, is_key, nodes_of, node_terms, flow_terms, fits_for, over_for, answer_for, answer_of, LawfulFrom, Lawful}
+use Rattle.history.specs.Windows.{green_windows, MeterWindows, WindowLaw}
 use Rattle.history.proofs.Keys.{alike_decides}
 use Rattle.history.proofs.Longer.{clock_snoc, clock_rises, charges_snoc, charges_none, by_step, Timely, timely}
 use Rattle.history.proofs.Pathing.{judged_fits, all_among}

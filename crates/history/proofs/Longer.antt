@@ -1,16 +1,16 @@
 -- A history with one more entry: its clock, its charges, its keys. Assumes nothing.
-use Rattle.std.proofs.Common.{◌≡◌, ℕ, ◌+◌, ◌-◌, ◌*◌, ◌<◌, ◌≤◌, Bool, true, false, cond, not, ◌&&◌, eqb, ltb, List, [], ◌∷◌, ◌++◌, Some, None, Ok, Err, Option, Result, sym, refl, ap, ◌∙◌, subst, ⊎_elim, append_assoc, append-nil, le_trans, le_refl, arith}
+use Rattle.std.proofs.Common.{◌≡◌, ℕ, ◌+◌, ◌<◌, ◌≤◌, Bool, true, false, cond, List, [], ◌∷◌, ◌++◌, Some, None, Option, sym, refl, ap, ◌∙◌, ⊎_elim, append_assoc, append-nil, le_trans, le_refl, arith}
 use Rattle.std.proofs.lemmas.Bool.{cases_lt, lt-ltb, le-ltb}
 use Rattle.meter.specs.declared.measures.Colour.{Colour}
 use Rattle.meter.specs.declared.measures.Terms.{Terms}
 use Rattle.meter.specs.Rules.{cost}
-use Rattle.meter.specs.Windows.{Charge, charge_of, By, fill}
+use Rattle.meter.specs.Windows.{Charge, charge_of, By}
 use Rattle.packet.specs.declared.kinds.Key.{Key}
 use Rattle.history.specs.declared.answers.Refusal.{Refusal}
 use Rattle.history.specs.declared.answers.Refusal.TheVariants.{Backward}
 use Rattle.history.specs.declared.answers.Answer.{Answer}
 use Rattle.history.specs.declared.answers.Answer.TheVariants.{Carried, Refused}
-use Rattle.history.specs.Answers.{is_carried, is_backward, went_back}
+use Rattle.history.specs.Answers.{is_carried, went_back}
 use Rattle.history.specs.Histories.{Config, Offer, Entry, History, entry_of, clock_from, clock_of, charges_of, alike, same_kind, is_key, key_of, carried_of, carried_key, new_key, keys_like, answer_for, answer_of, LawfulFrom, Lawful}
 use Rattle.history.proofs.Keys.{alike_decides, alike_sym}
 

@@ -1,6 +1,6 @@
 -- What is judged along a path, whose numbers fall. Assumes nothing.
-use Rattle.std.proofs.Common.{◌≡◌, ℕ, zero, suc, ◌+◌, ◌-◌, ◌<◌, ◌≤◌, Bool, true, false, cond, ◌&&◌, eqb, ◌⊎◌, List, [], ◌∷◌, length, get_or, Some, None, Option, sym, refl, ap, ◌∙◌, subst, inl, inr, ⊎_elim, arith}
-use Rattle.std.proofs.lemmas.Bool.{cases_eq, eq-eqb, ne_eqb, and_parts}
+use Rattle.std.proofs.Common.{◌≡◌, ℕ, ◌+◌, ◌<◌, ◌≤◌, Bool, true, false, cond, ◌&&◌, eqb, List, [], ◌∷◌, Some, None, Option, sym, refl, ap, ◌∙◌, ⊎_elim, arith}
+use Rattle.std.proofs.lemmas.Bool.{cases_eq, ne_eqb, and_parts}
 use Rattle.meter.specs.declared.measures.Colour.{Colour}
 use Rattle.meter.specs.declared.measures.PacketColour.{PacketColour}
 use Rattle.meter.specs.declared.measures.PacketColour.TheVariants.{Green, Yellow, Red}
@@ -8,8 +8,7 @@ use Rattle.meter.specs.Alone.{allowed}
 use Rattle.paths.specs.declared.layers.Place.{Place}
 use Rattle.paths.specs.Layers.{all_of, first_of, best, lowest, place}
 use Rattle.policy.proofs.Ancestry.{Falls}
-use Rattle.history.specs.declared.answers.Refusal.TheVariants.{Backward, TableFull, MarkedRed, OverDepth, OverExcess}
-use Rattle.history.specs.declared.answers.Answer.{Answer}
+use Rattle.history.specs.declared.answers.Refusal.TheVariants.{OverDepth, OverExcess}
 use Rattle.history.specs.declared.answers.Answer.TheVariants.{Carried, Refused}
 use Rattle.history.specs.Answers.{blame, or_else, judged, went_back, is_backward}
 use Rattle.history.specs.Histories.{among}

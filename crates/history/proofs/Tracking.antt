@@ -1,5 +1,5 @@
 -- A meter that tracks the fills of a history goes on to, with one more entry. Assumes nothing.
-use Rattle.std.proofs.Common.{◌≡◌, ℕ, ◌+◌, ◌-◌, ◌*◌, ◌<◌, ◌≤◌, Bool, true, false, cond, not, ◌&&◌, ltb, leb, List, [], ◌∷◌, ◌++◌, Some, None, Ok, Err, Option, Result, sym, refl, ap, ◌∙◌, subst, le_trans, le_refl, arith}
+use Rattle.std.proofs.Common.{◌≡◌, ℕ, ◌+◌, ◌-◌, ◌*◌, ◌≤◌, Bool, true, false, cond, not, ◌&&◌, ltb, leb, List, [], ◌∷◌, ◌++◌, Some, None, Ok, Err, Option, Result, sym, refl, ap, ◌∙◌, subst, le_trans, le_refl, arith}
 use Rattle.std.proofs.lemmas.Bool.{and_from, lt-ltb, le-leb}
 use Rattle.meter.specs.declared.measures.Bucket.{Bucket}
 use Rattle.meter.specs.declared.measures.Colour.{Colour}
@@ -9,12 +9,11 @@ use Rattle.meter.specs.declared.measures.Refusal as meter
 use Rattle.meter.specs.declared.measures.Refusal.TheVariants as refused
 use Rattle.meter.specs.declared.measures.State.{State}
 use Rattle.meter.specs.declared.measures.Terms.{Terms}
-use Rattle.meter.specs.Rules.{cost, fits_by, fitting, overfull, unless, asked, charged, fits_in, level, green_level, limit_of, terms_of, filled, green_filled, counted, empty_green, unused, largest_size, largest_moment}
+use Rattle.meter.specs.Rules.{cost, fits_by, fitting, overfull, unless, asked, charged, fits_in, level, green_level, limit_of, terms_of, green_filled, counted, empty_green, unused, largest_size, largest_moment}
 use Rattle.meter.specs.Windows.{Charge, charge_of, By, window_cost, fill}
 use Rattle.meter.proofs.Fill.{fill_later, fill_charge}
 use Rattle.meter.proofs.Keeps.{counted_terms}
-use Rattle.paths.specs.declared.layers.Load.{Load}
-use Rattle.paths.specs.Layers.{over_in, after_charge, left_by}
+use Rattle.paths.specs.Layers.{over_in, after_charge}
 use Rattle.packet.specs.declared.kinds.Key.{Key}
 use Rattle.history.specs.declared.answers.Refusal.{Refusal}
 use Rattle.history.specs.declared.answers.Answer.{Answer}
