@@ -1,5 +1,6 @@
 // Packets, bytes and refusals of each node and of the line.
 #![tactic(auto)]
+
 pub mod laws;
 pub mod noting;
 pub mod rows;

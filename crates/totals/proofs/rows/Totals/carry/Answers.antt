@@ -8,9 +8,9 @@ loop-node-preserved c =
     let a = c.args in
     let i = c.loop-node.node-index in
     let ks = a.path.now in (
-      c.bump-row.ensures.offered ∙ c.loop-node.invariant.0,
+      c.bump_row.ensures.offered ∙ c.loop-node.invariant.0,
       c.loop-node.invariant.1 ∙ at_drop_more (λ l. bumped_all c.loop-node.self.rows l a.colour a.size.0) ks i 0 (omega arith)
-          ∙ sym (ap (λ rs. bumped_all rs (drop (i + 1) ks) a.colour a.size.0) c.bump-row.ensures.rows),
+          ∙ sym (ap (λ rs. bumped_all rs (drop (i + 1) ks) a.colour a.size.0) c.bump_row.ensures.rows),
     )
 
 pub returns : goal.returns

@@ -9,7 +9,7 @@ returns-in-Carried c =
     let t = a.self.now in
     let ks = a.path.now in
     let n = a.size.0 in
-    counts_more ks n a.answer t c.carry.new.self (c.carry.ensures.offered ∙ c.saturating-add-self.ensures)
+    counts_more ks n a.answer t c.carry.new.self (c.carry.ensures.offered ∙ c.saturating_add-self.ensures)
     (c.carry.ensures.rows ∙ ap (noted t.rows ks n) (sym c.in-Carried.is))
 
 pub returns-in-Refused : goal.returns-in-Refused
@@ -18,5 +18,5 @@ returns-in-Refused c =
     let t = a.self.now in
     let ks = a.path.now in
     let n = a.size.0 in
-    counts_more ks n a.answer t c.refuse.new.self (c.refuse.ensures.offered ∙ c.saturating-add-self.ensures)
+    counts_more ks n a.answer t c.refuse.new.self (c.refuse.ensures.offered ∙ c.saturating_add-self.ensures)
     (c.refuse.ensures.rows ∙ ap (refused_in t.rows) c.named.ensures ∙ ap (noted t.rows ks n) (sym c.in-Refused.is))
