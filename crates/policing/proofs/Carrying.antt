@@ -1,27 +1,24 @@
 -- Flows and nodes that hold a history go on to hold it with one more entry. Assumes nothing.
-use Rattle.std.proofs.Common.{◌≡◌, ℕ, zero, suc, ◌+◌, ◌-◌, ◌<◌, ◌≤◌, Bool, true, false, cond, not, ◌&&◌, eqb, ltb, List, [], ◌∷◌, ◌++◌, map, length, get_or, Some, None, Ok, Err, vec_items, Option, Result, sym, refl, ap, ◌∙◌, subst, ⊎_elim, arith}
-use Rattle.std.proofs.lemmas.List.{length-map, get_or-map}
-use Rattle.std.proofs.lemmas.Bool.{cases_Bool, cases_eq, eq-eqb, ne_eqb}
+use Rattle.std.proofs.Common.{◌≡◌, ℕ, zero, suc, ◌+◌, ◌-◌, ◌<◌, ◌≤◌, Bool, true, false, cond, not, ◌&&◌, eqb, List, [], ◌∷◌, ◌++◌, map, length, get_or, Some, None, Ok, vec_items, Option, sym, refl, ap, ◌∙◌, subst, ⊎_elim, arith}
+use Rattle.std.proofs.lemmas.List.{length-map}
+use Rattle.std.proofs.lemmas.Bool.{cases_Bool, cases_eq, ne_eqb}
 use Rattle.std.specs.List.{slice_get}
 use Rattle.meter.specs.declared.measures.Colour.{Colour}
 use Rattle.meter.specs.declared.measures.Moment.{Moment}
 use Rattle.meter.specs.declared.measures.State.{State}
 use Rattle.meter.specs.declared.measures.Terms.{Terms}
-use Rattle.meter.specs.Rules.{cost, counted, terms_of, unused}
+use Rattle.meter.specs.Rules.{cost, counted, terms_of}
 use Rattle.meter.specs.Windows.{By}
 use Rattle.packet.specs.declared.kinds.Key.{Key}
 use Rattle.policy.specs.declared.rules.Rule.{Rule}
-use Rattle.policy.specs.declared.rules.Selector.{Selector}
 use Rattle.policy.specs.Rules.{matches, next, first_for}
 use Rattle.policy.specs.Policies.{parents_of}
 use Rattle.policy.specs.Trees.{most_depth, parent_of, upward, ancestry, depth_of, Earlier, Shallow}
 use Rattle.policy.proofs.Ancestry.{Falls, upward_none, upward_more, ancestry_more, depth_more, ancestry_falls, parent_below}
-use Rattle.paths.specs.declared.layers.Load.{Load}
-use Rattle.paths.specs.Layers.{meter_at, fits_one, fits_at, over_one, left_by, charged_nodes}
+use Rattle.paths.specs.Layers.{fits_one, fits_at, over_one, left_by, charged_nodes}
 use Rattle.paths.proofs.Numbered.{nth_map, at_node}
-use Rattle.flow.specs.Tables.{rows_of}
 use Rattle.history.specs.declared.answers.Refusal.{Refusal}
-use Rattle.history.specs.declared.answers.Refusal.TheVariants.{Backward, TableFull}
+use Rattle.history.specs.declared.answers.Refusal.TheVariants.{TableFull}
 use Rattle.history.specs.declared.answers.Answer.{Answer}
 use Rattle.history.specs.declared.answers.Answer.TheVariants.{Carried, Refused}
 use Rattle.history.specs.Answers.{judged, went_back}
@@ -29,18 +26,18 @@ use Rattle.history.specs.Histories as history
 use Rattle.history.specs.Histories.{RuleTerms, Config, Entry, History, entry_of, no_terms, no_rule, rule_for, alike, same_kind, is_key, key_in, key_of, room, among, clock_of, charges_of, on_flow, on_node, nodes_of, nodes_under, node_terms, flow_terms, carried_key, keys_like, meter_fits, meter_over, fits_for, over_for, answer_for, answer_of, Lawful}
 use Rattle.history.specs.Tracks.{Tracks, Fair}
 use Rattle.history.proofs.Keys.{alike_decides, alike_self}
-use Rattle.history.proofs.Longer.{Timely, timely, clock_snoc, answer_back, answer_on, lawful_by, lawful_snoc, key_none, key_some, keys_none, keys_some}
-use Rattle.history.proofs.Pathing.{Agree, falls_agree, judged_same, judged_timely, among_in}
+use Rattle.history.proofs.Longer.{timely, clock_snoc, answer_on, lawful_by, lawful_snoc, key_none, key_some, keys_none, keys_some}
+use Rattle.history.proofs.Pathing.{Agree, falls_agree, judged_same, judged_timely}
 use Rattle.history.proofs.Law.{carried_fits}
-use Rattle.history.proofs.Tracking.{tracks_on, tracks_off, tracks_none, tracks_new, asked_tracks, over_tracks, charged_tracks}
+use Rattle.history.proofs.Tracking.{tracks_on, tracks_off, tracks_none, asked_tracks, over_tracks, charged_tracks}
 use Rattle.policing.specs.declared.core.Core.{Core}
 use Rattle.policing.specs.declared.core.Flow.{Flow}
 use Rattle.policing.specs.declared.core.Offer.{Offer}
 use Rattle.policing.specs.Passing.{over_by}
-use Rattle.policing.specs.Flows.{WholeBoth, HeldBy, MissingBy, used_by, room_by, RoomsKept, PutsBy}
-use Rattle.policing.specs.Moving.{Same, Charges, Outcome, RuleAt, Moves, path_up, Settles}
-use Rattle.policing.specs.Holding.{flow_of, offer_of, RuledBy, Ruled, rule_of, config_of, Unused, Rooted, Ready, Holds}
-use Rattle.policing.proofs.Charged.{left_in, nth_some, nodes_terms, nodes_length, charged_at}
+use Rattle.policing.specs.Flows.{WholeBoth, HeldBy, RoomsKept}
+use Rattle.policing.specs.Moving.{Same, Charges, Outcome, RuleAt, Moves, path_up}
+use Rattle.policing.specs.Holding.{flow_of, offer_of, rule_of, config_of, Rooted, Ready, Holds}
+use Rattle.policing.proofs.Charged.{left_in, nodes_terms, nodes_length, charged_at}
 use Rattle.policing.proofs.KindTables.{same_whole, same_back, same_forth, same_used, puts_held, puts_only, puts_kept, puts_nomore, puts_used}
 
 never : {A : Type 0} → true ≡ false → A

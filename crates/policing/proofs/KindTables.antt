@@ -1,5 +1,5 @@
 -- The table of a key's kind: unchanged, or with one key's meter put. Assumes nothing.
-use Rattle.std.proofs.Common.{◌≡◌, ℕ, ◌+◌, ◌<◌, Bool, true, false, cond, sym, refl, ap, ◌∙◌, subst, arith}
+use Rattle.std.proofs.Common.{◌≡◌, ℕ, ◌+◌, cond, sym, ap, subst, arith}
 use Rattle.packet.specs.declared.kinds.Key.{Key}
 use Rattle.packet.specs.declared.kinds.Key.TheVariants.{Conversation, Station}
 use Rattle.flow.specs.declared.table.FlowTable.{FlowTable}

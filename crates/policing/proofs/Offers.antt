@@ -1,21 +1,19 @@
 -- Each way out of an offer: the answer is that of the history, and the longer history is held. Assumes nothing.
-use Rattle.std.proofs.Common.{◌≡◌, ℕ, suc, ◌+◌, ◌<◌, ◌≤◌, Bool, true, false, cond, not, ◌&&◌, eqb, List, [], ◌∷◌, ◌++◌, map, length, get_or, Some, None, Ok, Err, vec_items, Option, Result, sym, refl, ap, ◌∙◌, subst, ⊎_elim, arith}
+use Rattle.std.proofs.Common.{◌≡◌, ℕ, suc, ◌<◌, ◌≤◌, Bool, true, false, cond, not, ◌&&◌, eqb, List, [], ◌∷◌, ◌++◌, map, length, Some, None, Ok, Err, vec_items, Option, sym, refl, ap, ◌∙◌, subst, ⊎_elim, arith}
 use Rattle.std.proofs.lemmas.List.{length-map}
 use Rattle.std.proofs.lemmas.Bool.{cases_Bool, cases_lt, eq-eqb, ne_eqb}
 use Rattle.meter.specs.declared.measures.State.{State}
-use Rattle.meter.specs.Rules.{terms_of, unused}
+use Rattle.meter.specs.Rules.{unused}
 use Rattle.packet.specs.declared.kinds.Key.{Key}
 use Rattle.packet.specs.declared.kinds.Key.TheVariants.{Conversation, Station}
 use Rattle.policy.specs.declared.rules.Rule.{Rule}
 use Rattle.policy.specs.declared.rules.Selector.{Selector}
 use Rattle.policy.specs.Rules.{matches, next, first_for}
-use Rattle.flow.specs.Tables.{rows_of}
 use Rattle.history.specs.declared.answers.Refusal.{Refusal}
 use Rattle.history.specs.declared.answers.Refusal.TheVariants.{Backward, TableFull}
 use Rattle.history.specs.declared.answers.Answer.{Answer}
-use Rattle.history.specs.declared.answers.Answer.TheVariants.{Carried, Refused}
+use Rattle.history.specs.declared.answers.Answer.TheVariants.{Refused}
 use Rattle.history.specs.Answers.{is_backward, judged}
-use Rattle.history.specs.Histories as history
 use Rattle.history.specs.Histories.{RuleTerms, Config, History, entry_of, room, clock_of, on_flow, nodes_of, flow_terms, carried_key, keys_like, fits_for, over_for, answer_for, answer_of}
 use Rattle.history.specs.Tracks.{Tracks, Fair}
 use Rattle.history.proofs.Longer.{clock_snoc, answer_back, answer_on}

@@ -1,12 +1,12 @@
 -- From the row that was found to the meter that is held. Assumes nothing.
-use Rattle.std.proofs.Common.{◌≡◌, ℕ, ◌+◌, ◌<◌, ◌≤◌, Bool, true, false, List, map, length, get_or, Ok, Err, Result, sym, refl, ap, ◌∙◌, subst, arith}
+use Rattle.std.proofs.Common.{◌≡◌, ℕ, ◌+◌, ◌<◌, Bool, true, false, List, length, Ok, Err, Result, sym, ap, ◌∙◌, subst, arith}
 use borrow.Rule.Slice.AtParam.{at_default}
 use Rattle.flow.specs.declared.row.Row.{Row}
 use Rattle.flow.specs.declared.row.Unplaced.{Unplaced}
 use Rattle.flow.specs.declared.row.Unplaced.TheVariants as unplaced
 use Rattle.flow.specs.declared.table.FlowTable.{FlowTable}
-use Rattle.flow.specs.Rows.{At, Keyed, Found}
-use Rattle.flow.specs.Tables.{rows_of, Whole, Held, Missing, RowOf, Puts, Same, Places, Replaces}
+use Rattle.flow.specs.Rows.{At, Keyed}
+use Rattle.flow.specs.Tables.{rows_of, Whole, Held, Missing, RowOf, Puts, Places, Replaces}
 
 pub row_same : {K M : Type 0} (rows : List (Row K M)) (i : ℕ) (x y : Row K M) → At rows i x → At rows i y → x ≡ y
 row_same rows i x y a b = at_default rows i x y a.1 a.0 ∙ sym b.1

@@ -4,7 +4,7 @@
 -- SameBoth: nothing changed; PutsBy: one key's meter is put; RoomsKept: no table grows
 -- LookedBy, KeepsBy: looking and keeping in the table of a key's kind
 -- Assumes nothing.
-use Rattle.std.specs.Prelude.{◌≡◌, ℕ, ◌+◌, ◌<◌, ◌≤◌, cond, length, Some, None, Option}
+use Rattle.std.specs.Prelude.{◌≡◌, ℕ, ◌+◌, ◌<◌, ◌≤◌, length, Some, None, Option}
 use Rattle.packet.specs.declared.kinds.Conversation as one
 use Rattle.packet.specs.declared.kinds.Station as other
 use Rattle.packet.specs.declared.kinds.Key.{Key}

@@ -22,7 +22,7 @@ pub struct Passage {
 
 // The best colour that every meter takes; otherwise the lowest that does not take the packet yellow is to blame.
 pub fn judge<M: Meter>(flow: &M, nodes: &[M], passage: &Passage) -> Answer
-    ensures { result ≡ judged (fits_at passage.now.load (meaning flow.now) (map meaning nodes.now)) (over_by passage.now.load (meaning flow.now) (map meaning nodes.now)) passage.now.arrival (layers_of passage.now.path) }
+    ensures { result ≡ judged (fits_at passage.now.load (M.meaning flow.now) (map M.meaning nodes.now)) (over_by passage.now.load (M.meaning flow.now) (map M.meaning nodes.now)) passage.now.arrival (layers_of passage.now.path) }
 {
     if let PacketColour::Red = passage.arrival {
         return Answer::Refused(Refusal::MarkedRed);
@@ -46,8 +46,8 @@ pub fn judge<M: Meter>(flow: &M, nodes: &[M], passage: &Passage) -> Answer
 
 // Judges a packet, and charges it to the whole path where it is carried.
 pub fn pass<M: Meter>(flow: &mut M, nodes: &mut [M], passage: &Passage) -> Answer
-    ensures judged { result ≡ judged (fits_at passage.now.load (meaning flow.old) (map meaning nodes.old)) (over_by passage.now.load (meaning flow.old) (map meaning nodes.old)) passage.now.arrival (layers_of passage.now.path) }
-    ensures taken { Taken meaning passage.now flow.old flow.new nodes.old nodes.new result }
+    ensures judged { result ≡ judged (fits_at passage.now.load (M.meaning flow.old) (map M.meaning nodes.old)) (over_by passage.now.load (M.meaning flow.old) (map M.meaning nodes.old)) passage.now.arrival (layers_of passage.now.path) }
+    ensures taken { Taken M.meaning passage.now flow.old flow.new nodes.old nodes.new result }
 {
     let answer = judge(flow, nodes, passage);
     if let Answer::Carried(colour) = answer {

@@ -10,7 +10,7 @@ use flow::table::FlowTable;
 use packet::kinds;
 
 fn look_in<K: Key + Copy, M: Copy>(table: &FlowTable<'_, K, M>, key: &K) -> Lookup<M>
-    ensures { Whole (λ k. chain_of (bytes k)) table.now → Looked table.now key.now result }
+    ensures { Whole (λ k. chain_of (K.bytes k)) table.now → Looked table.now key.now result }
 {
     match table.find(key) {
         Some(row) => match table.meter(row) {
@@ -34,7 +34,7 @@ fn keep_in<K: Key + Copy, M: Copy>(
 )
     ensures same { table.new.rows.ghost_name ≡ table.old.rows.ghost_name }
     ensures rows { length (rows_of table.new) ≡ length (rows_of table.old) }
-    ensures keeps { Whole (λ k. chain_of (bytes k)) table.old → Keeps (λ k. chain_of (bytes k)) table.old table.new key row meter }
+    ensures keeps { Whole (λ k. chain_of (K.bytes k)) table.old → Keeps (λ k. chain_of (K.bytes k)) table.old table.new key row meter }
 {
     match row {
         Some(row) => {

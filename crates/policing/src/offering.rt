@@ -23,8 +23,8 @@ impl<'a, M: Meter + Copy> Core<'a, M> {
     // Judges a packet by a flow's meter that stands at `start`, and keeps the meter where the packet is carried.
     fn pass_on(&mut self, key: Key, row: Option<usize>, start: M, passage: &Passage) -> Answer
         ensures same { SameNames self.old self.new }
-        ensures judged { result ≡ judged (fits_at passage.now.load (meaning start) (map meaning self.old.nodes.items)) (over_by passage.now.load (meaning start) (map meaning self.old.nodes.items)) passage.now.arrival (layers_of passage.now.path) }
-        ensures came { WholeBoth self.old.flows → Came meaning self.old self.new passage.now.load key (layers_of passage.now.path) row (meaning start) result }
+        ensures judged { result ≡ judged (fits_at passage.now.load (M.meaning start) (map M.meaning self.old.nodes.items)) (over_by passage.now.load (M.meaning start) (map M.meaning self.old.nodes.items)) passage.now.arrival (layers_of passage.now.path) }
+        ensures came { WholeBoth self.old.flows → Came M.meaning self.old self.new passage.now.load key (layers_of passage.now.path) row (M.meaning start) result }
     {
         let mut meter = start;
         let answer = pass(&mut meter, &mut self.nodes, passage);
@@ -37,7 +37,7 @@ impl<'a, M: Meter + Copy> Core<'a, M> {
     // A flow without a row starts with its rule's meter, and gets a row exactly if its packet is carried.
     fn settle(&mut self, load: Load, flow: Flow) -> Answer
         ensures same { SameNames self.old self.new }
-        ensures settles { WholeBoth self.old.flows → (x : Rule M) → RuleAt self.old.rules.items flow.rule x → Settles meaning self.old self.new load flow x result }
+        ensures settles { WholeBoth self.old.flows → (x : Rule M) → RuleAt self.old.rules.items flow.rule x → Settles M.meaning self.old self.new load flow x result }
     {
         if flow.rule >= self.rules.len() {
             return Answer::Refused(Refusal::NoRule);
@@ -58,7 +58,7 @@ impl<'a, M: Meter + Copy> Core<'a, M> {
     // The answer is that of the history, whatever history is held; and then the longer one is.
     pub(crate) fn offer(&mut self, offer: Offer) -> Answer
         ensures same { SameNames self.old self.new }
-        ensures lawful { (g : Config) (h : History) → Holds meaning g self.old h → Fair (offer_of offer) → Ruled self.old offer → (result ≡ answer_of g h (offer_of offer)) × Holds meaning g self.new (h ++ (entry_of (offer_of offer) result ∷ [])) }
+        ensures lawful { (g : Config) (h : History) → Holds M.meaning g self.old h → Fair (offer_of offer) → Ruled self.old offer → (result ≡ answer_of g h (offer_of offer)) × Holds M.meaning g self.new (h ++ (entry_of (offer_of offer) result ∷ [])) }
     {
         if offer.load.moment.0 < self.clock.0 {
             return Answer::Refused(Refusal::Backward);

@@ -5,7 +5,6 @@ use Rattle.meter.specs.declared.measures.PacketColour.TheVariants.{Red}
 use Rattle.paths.specs.declared.layers.Place.{Place}
 use Rattle.paths.specs.Layers.{layers_of, fits_at, best, lowest}
 use Rattle.history.specs.declared.answers.Refusal.TheVariants.{OverDepth, OverExcess}
-use Rattle.history.specs.declared.answers.Answer.{Answer}
 use Rattle.history.specs.declared.answers.Answer.TheVariants.{Carried, Refused}
 use Rattle.history.specs.Answers.{blame, or_else, judged}
 use Rattle.policing.specs.Passing.{over_by}
@@ -25,28 +24,28 @@ pub returns-in-Some : goal.returns-in-Some
 returns-in-Some g c =
     let a = c.args in
     let f = g.M.Meter.meaning in
-    found (fits_at a.passage.now.load (f a.flow.now) (map f a.nodes.now)) (over_by a.passage.now.load (f a.flow.now) (map f a.nodes.now)) a.passage.now.arrival (layers_of a.passage.now.path) c.layers-layers.result.now c.in-Some.colour c.in-default.not-Red c.layers-layers.ensures c.in-Some.ensures
+    found (fits_at a.passage.now.load (f a.flow.now) (map f a.nodes.now)) (over_by a.passage.now.load (f a.flow.now) (map f a.nodes.now)) a.passage.now.arrival (layers_of a.passage.now.path) c.layers-layers.result.now c.in-Some.colour c.in_default.not-Red c.layers-layers.ensures c.in-Some.ensures
 
-pub returns-then-over-at : goal.returns-then-over-at
-returns-then-over-at g c =
+pub returns-then-over_at : goal.returns-then-over_at
+returns-then-over_at g c =
     let a = c.args in
     let f = g.M.Meter.meaning in
-    let q = c.in-Some-lowest-unfit.place in
+    let q = c.in-Some-lowest_unfit.place in
     let over = over_by a.passage.now.load (f a.flow.now) (map f a.nodes.now) in
-    ap (λ b. Refused (cond b (OverDepth q) (OverExcess q))) c.if-over-at.ensures
-    ∙ told (fits_at a.passage.now.load (f a.flow.now) (map f a.nodes.now)) over a.passage.now.arrival (layers_of a.passage.now.path) c.layers-layers.result.now None (Some q) c.in-default.not-Red c.layers-layers.ensures c.in-default-best-colour.ensures c.in-Some-lowest-unfit.ensures
+    ap (λ b. Refused (cond b (OverDepth q) (OverExcess q))) c.if-over_at.ensures
+    ∙ told (fits_at a.passage.now.load (f a.flow.now) (map f a.nodes.now)) over a.passage.now.arrival (layers_of a.passage.now.path) c.layers-layers.result.now None (Some q) c.in_default.not-Red c.layers-layers.ensures c.in_default-best_colour.ensures c.in-Some-lowest_unfit.ensures
 
-pub returns-else-over-at : goal.returns-else-over-at
-returns-else-over-at g c =
+pub returns-else-over_at : goal.returns-else-over_at
+returns-else-over_at g c =
     let a = c.args in
     let f = g.M.Meter.meaning in
-    let q = c.in-Some-lowest-unfit.place in
+    let q = c.in-Some-lowest_unfit.place in
     let over = over_by a.passage.now.load (f a.flow.now) (map f a.nodes.now) in
-    ap (λ b. Refused (cond b (OverDepth q) (OverExcess q))) c.if-over-at.ensures
-    ∙ told (fits_at a.passage.now.load (f a.flow.now) (map f a.nodes.now)) over a.passage.now.arrival (layers_of a.passage.now.path) c.layers-layers.result.now None (Some q) c.in-default.not-Red c.layers-layers.ensures c.in-default-best-colour.ensures c.in-Some-lowest-unfit.ensures
+    ap (λ b. Refused (cond b (OverDepth q) (OverExcess q))) c.if-over_at.ensures
+    ∙ told (fits_at a.passage.now.load (f a.flow.now) (map f a.nodes.now)) over a.passage.now.arrival (layers_of a.passage.now.path) c.layers-layers.result.now None (Some q) c.in_default.not-Red c.layers-layers.ensures c.in_default-best_colour.ensures c.in-Some-lowest_unfit.ensures
 
 pub returns-in-None : goal.returns-in-None
 returns-in-None g c =
     let a = c.args in
     let f = g.M.Meter.meaning in
-    told (fits_at a.passage.now.load (f a.flow.now) (map f a.nodes.now)) (over_by a.passage.now.load (f a.flow.now) (map f a.nodes.now)) a.passage.now.arrival (layers_of a.passage.now.path) c.layers-layers.result.now None None c.in-default.not-Red c.layers-layers.ensures c.in-default-best-colour.ensures c.in-None.ensures
+    told (fits_at a.passage.now.load (f a.flow.now) (map f a.nodes.now)) (over_by a.passage.now.load (f a.flow.now) (map f a.nodes.now)) a.passage.now.arrival (layers_of a.passage.now.path) c.layers-layers.result.now None None c.in_default.not-Red c.layers-layers.ensures c.in_default-best_colour.ensures c.in-None.ensures

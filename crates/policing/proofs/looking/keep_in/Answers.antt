@@ -1,4 +1,4 @@
-use Rattle.std.proofs.Common.{◌≡◌, sym, ◌∙◌, subst, arith}
+use Rattle.std.proofs.Common.{sym, subst, arith}
 use Rattle.flow.specs.Keys.{chain_of}
 use Rattle.policing.specs.Flows.{Keeps}
 use Rattle.policing.proofs.Rows.{replaced, added}

@@ -1,4 +1,4 @@
-use Rattle.std.proofs.Common.{◌≡◌, sym, refl, ◌∙◌, subst}
+use Rattle.std.proofs.Common.{refl}
 use Rattle.policing.proofs.Offers.{at_config, went_back, was_settled, was_flowless}
 use Rattle.policing.proofs.core.Core.offer.Goals as goal
 

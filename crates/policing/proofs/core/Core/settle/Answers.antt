@@ -1,4 +1,4 @@
-use Rattle.std.proofs.Common.{◌≡◌, ◌∷◌, vec_items, sym, refl, ap, ◌∙◌, arith}
+use Rattle.std.proofs.Common.{◌∷◌, vec_items, sym, refl, ap, ◌∙◌, arith}
 use Rattle.policy.specs.Trees.{most_depth, upward}
 use Rattle.paths.specs.Layers.{layers_of}
 use Rattle.policing.proofs.Moves.{rule_same, moves_to, path_to, held_missing, row_missing}
@@ -6,7 +6,7 @@ use Rattle.policing.proofs.core.Core.settle.Goals as goal
 
 pub returns-in-Held : goal.returns-in-Held
 returns-in-Held g c = record {
-  same = c.pass-on.ensures.same;
+  same = c.pass_on.ensures.same;
   settles = λ whole x at.
       let p = c.args.self.now in
       let w = c.args.flow in
@@ -17,7 +17,7 @@ returns-in-Held g c = record {
         known = λ m held.
             moves_to g.M.Meter.meaning p _ c.args.load w.key w.arrival (layers_of c.new.result) _ c.in-Held.meter m 0 _
             (path_to p read x (layers_of c.new.result) (c.new.ensures ∙ ap (λ l. 0 ∷ upward most_depth l read.parent) c.parents.ensures.value) e) (sym (found.2 m held))
-            (c.pass-on.ensures.judged, c.pass-on.ensures.came whole found.0);
+            (c.pass_on.ensures.judged, c.pass_on.ensures.came whole found.0);
         unknown = λ missing _. absurd (row_missing p w.key c.in-Held.row missing found.0);
         full = λ missing _. absurd (row_missing p w.key c.in-Held.row missing found.0);
       };
@@ -25,7 +25,7 @@ returns-in-Held g c = record {
 
 pub returns-in-Free : goal.returns-in-Free
 returns-in-Free g c = record {
-  same = c.pass-on-in-Free.ensures.same;
+  same = c.pass_on-in-Free.ensures.same;
   settles = λ whole x at.
       let p = c.args.self.now in
       let w = c.args.flow in
@@ -38,7 +38,7 @@ returns-in-Free g c = record {
         unknown = λ missing less.
             moves_to g.M.Meter.meaning p _ c.args.load w.key w.arrival (layers_of c.new.result) _ read.meter x.meter 1 _
             (path_to p read x (layers_of c.new.result) (c.new.ensures ∙ ap (λ l. 0 ∷ upward most_depth l read.parent) c.parents.ensures.value) e) (λ i. (e i).meter)
-            (c.pass-on-in-Free.ensures.judged, c.pass-on-in-Free.ensures.came whole missing less);
+            (c.pass_on-in-Free.ensures.judged, c.pass_on-in-Free.ensures.came whole missing less);
         full = λ _ full. absurd (omega arith);
       };
 }
