@@ -30,9 +30,9 @@ use Rattle.history.proofs.Longer.{timely, clock_snoc, answer_on, lawful_by, lawf
 use Rattle.history.proofs.Pathing.{Agree, falls_agree, judged_same, judged_timely}
 use Rattle.history.proofs.Law.{carried_fits}
 use Rattle.history.proofs.Tracking.{tracks_on, tracks_off, tracks_none, asked_tracks, over_tracks, charged_tracks}
-use Rattle.policing.specs.declared.core.Core.{Core}
-use Rattle.policing.specs.declared.core.Flow.{Flow}
-use Rattle.policing.specs.declared.core.Offer.{Offer}
+use Rattle.policing.specs.declared.cores.Core.{Core}
+use Rattle.policing.specs.declared.cores.Flow.{Flow}
+use Rattle.policing.specs.declared.cores.Offer.{Offer}
 use Rattle.policing.specs.Passing.{over_by}
 use Rattle.policing.specs.Flows.{WholeBoth, HeldBy, RoomsKept}
 use Rattle.policing.specs.Moving.{Same, Charges, Outcome, RuleAt, Moves, path_up}

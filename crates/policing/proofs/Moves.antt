@@ -12,7 +12,7 @@ use Rattle.paths.specs.declared.layers.Load.{Load}
 use Rattle.paths.specs.Layers.{left_by, charged_nodes}
 use Rattle.history.specs.declared.answers.Answer.{Answer}
 use Rattle.history.specs.declared.answers.Answer.TheVariants.{Carried, Refused}
-use Rattle.policing.specs.declared.core.Core.{Core}
+use Rattle.policing.specs.declared.cores.Core.{Core}
 use Rattle.policing.specs.declared.judging.Passage.{Passage}
 use Rattle.policing.specs.Passing.{Taken}
 use Rattle.policing.specs.Flows.{WholeBoth, HeldBy, MissingBy, RowBy, RoomsKept, KeepsBy, PutsBy}

@@ -18,9 +18,9 @@ use Rattle.history.specs.Histories.{RuleTerms, Config, History, entry_of, room, 
 use Rattle.history.specs.Tracks.{Tracks, Fair}
 use Rattle.history.proofs.Longer.{clock_snoc, answer_back, answer_on}
 use Rattle.history.proofs.Tracking.{tracks_new}
-use Rattle.policing.specs.declared.core.Core.{Core}
-use Rattle.policing.specs.declared.core.Flow.{Flow}
-use Rattle.policing.specs.declared.core.Offer.{Offer}
+use Rattle.policing.specs.declared.cores.Core.{Core}
+use Rattle.policing.specs.declared.cores.Flow.{Flow}
+use Rattle.policing.specs.declared.cores.Offer.{Offer}
 use Rattle.policing.specs.Flows.{WholeBoth, HeldBy, MissingBy, used_by, room_by}
 use Rattle.policing.specs.Moving.{Same, RuleAt, Settles}
 use Rattle.policing.specs.Holding.{flow_of, offer_of, RuledBy, Ruled, rule_of, config_of, Holds}

@@ -18,9 +18,9 @@ use Rattle.history.specs.Answers.{is_backward}
 use Rattle.history.specs.Histories as history
 use Rattle.history.specs.Histories.{RuleTerms, Config, History, clock_of, on_flow, on_node, node_terms, flow_terms, carried_key, keys_like, Lawful}
 use Rattle.history.specs.Tracks.{Tracks}
-use Rattle.policing.specs.declared.core.Core.{Core}
-use Rattle.policing.specs.declared.core.Flow.{Flow}
-use Rattle.policing.specs.declared.core.Offer.{Offer}
+use Rattle.policing.specs.declared.cores.Core.{Core}
+use Rattle.policing.specs.declared.cores.Flow.{Flow}
+use Rattle.policing.specs.declared.cores.Offer.{Offer}
 use Rattle.policing.specs.Flows.{WholeBoth, HeldBy, used_by}
 use Rattle.policing.specs.Moving.{RuleAt}
 

@@ -17,8 +17,8 @@ use Rattle.history.specs.declared.answers.Refusal.TheVariants.{TableFull}
 use Rattle.history.specs.declared.answers.Answer.{Answer}
 use Rattle.history.specs.declared.answers.Answer.TheVariants.{Carried, Refused}
 use Rattle.history.specs.Answers.{judged}
-use Rattle.policing.specs.declared.core.Core.{Core}
-use Rattle.policing.specs.declared.core.Flow.{Flow}
+use Rattle.policing.specs.declared.cores.Core.{Core}
+use Rattle.policing.specs.declared.cores.Flow.{Flow}
 use Rattle.policing.specs.Passing.{over_by}
 use Rattle.policing.specs.Flows.{WholeBoth, HeldBy, MissingBy, RowBy, used_by, room_by, SameBoth, RoomsKept, PutsBy}
 

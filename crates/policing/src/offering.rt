@@ -10,7 +10,7 @@ ghost use Rattle.policing.specs.Moving.{SameNames, Came, Settles, RuleAt};
 ghost use Rattle.policing.specs.Holding.{offer_of, Ruled, Holds};
 ghost use Rattle.policy.specs.declared.rules.Rule.{Rule};
 
-use crate::core::{Core, Flow, Offer};
+use crate::cores::{Core, Flow, Offer};
 use crate::flows::Lookup;
 use crate::judging::{Passage, pass};
 use history::answers::{Answer, Refusal};

@@ -1,6 +1,6 @@
 use Rattle.std.proofs.Common.{refl}
 use Rattle.policing.proofs.Offers.{at_config, went_back, was_settled, was_flowless}
-use Rattle.policing.proofs.core.Core.offer.Goals as goal
+use Rattle.policing.proofs.cores.Core.offer.Goals as goal
 
 pub returns-then-offer-self : goal.returns-then-offer-self
 returns-then-offer-self g c = record {

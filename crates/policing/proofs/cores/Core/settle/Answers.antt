@@ -2,7 +2,7 @@ use Rattle.std.proofs.Common.{◌∷◌, vec_items, sym, refl, ap, ◌∙◌, ar
 use Rattle.policy.specs.Trees.{most_depth, upward}
 use Rattle.paths.specs.Layers.{layers_of}
 use Rattle.policing.proofs.Moves.{rule_same, moves_to, path_to, held_missing, row_missing}
-use Rattle.policing.proofs.core.Core.settle.Goals as goal
+use Rattle.policing.proofs.cores.Core.settle.Goals as goal
 
 pub returns-in-Held : goal.returns-in-Held
 returns-in-Held g c = record {

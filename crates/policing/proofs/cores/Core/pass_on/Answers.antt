@@ -5,7 +5,7 @@ use Rattle.paths.specs.Layers.{layers_of, fits_at, charged_nodes}
 use Rattle.history.specs.Answers.{judged}
 use Rattle.policing.specs.Passing.{over_by}
 use Rattle.policing.proofs.Moves.{came_carried, came_refused, nodes_kept}
-use Rattle.policing.proofs.core.Core.pass_on.Goals as goal
+use Rattle.policing.proofs.cores.Core.pass_on.Goals as goal
 
 pub returns-in-Carried : goal.returns-in-Carried
 returns-in-Carried g c =
