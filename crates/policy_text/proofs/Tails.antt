@@ -11,7 +11,6 @@ use Rattle.packet.specs.declared.kinds.Class.TheVariants.{One}
 use Rattle.policy.specs.declared.rules.Mode.{Mode}
 use Rattle.policy.specs.declared.rules.Mode.TheVariants.{Blind}
 use Rattle.policy.specs.declared.rules.Prefix.{Prefix}
-use Rattle.policy.specs.declared.rules.Rule.{Rule}
 use Rattle.policy.specs.declared.rules.Selector.TheVariants.{Ip, Mac}
 use Rattle.policy.specs.declared.rules.Refusal.{Refusal}
 use Rattle.policy.specs.Policies.{room_of, number_of, rule_room_of}

@@ -1,7 +1,7 @@
 -- The words of a meter, which end a line. Each reader is told the place of its first word.
 -- two_of: two amounts; last_two_of: two that end the line; single_of, two_rate_of: the numbers of `sr` and `tr`; meter_of: all words
 -- Assumes nothing.
-use Rattle.std.specs.Prelude.{ℕ, ◌+◌, List, Ok, Err, codes, Result}
+use Rattle.std.specs.Prelude.{ℕ, ◌+◌, List, Ok, codes, Result}
 use Rattle.kinds.specs.declared.profiles.Profile.{Profile}
 use Rattle.kinds.specs.declared.profiles.Profile.TheVariants.{Vs, Lb, Tb, Sr, Tr}
 use Rattle.policy_words.specs.Words.{then, choice, lit, finish}

@@ -8,7 +8,7 @@
 -- Worth, worth_of, worth_in: what a meter is, and what a profile buys; Sells, Grown, Built: the policy of lines
 -- Answered, Canonical, Gives: what the reader answers; Begun, AtFault, Follows, First: its fault is the first
 -- Assumes nothing.
-use Rattle.std.specs.Prelude.{◌≡◌, ℕ, zero, suc, ◌+◌, ◌-◌, ◌<◌, ◌≤◌, Bool, true, false, cond, ◌||◌, ◌⊎◌, List, [], ◌∷◌, ◌++◌, map, length, take, drop, Ok, Err, vec_items, Result, ◌==◌, nat_le, nat_lt}
+use Rattle.std.specs.Prelude.{◌≡◌, ℕ, suc, ◌+◌, ◌-◌, ◌<◌, ◌≤◌, cond, ◌||◌, ◌⊎◌, List, [], ◌∷◌, ◌++◌, map, length, take, drop, Ok, Err, vec_items, Result, ◌==◌, nat_le, nat_lt}
 use Rattle.meter.specs.declared.measures.State.{State}
 use Rattle.kinds.specs.declared.profiles.AnyMeter.{AnyMeter}
 use Rattle.kinds.specs.declared.profiles.Fault as range

@@ -2,7 +2,7 @@
 -- profile_text: a meter's words; rule_text, line_text: a line, without the byte that ends it
 -- ProfileOk: a profile that makes a meter; SelectorOk: frames that can be written; LineOk: a line that may stand there
 -- Assumes nothing.
-use Rattle.std.specs.Prelude.{◌≡◌, ℕ, List, [], ◌∷◌, ◌++◌, Ok, Err, codes}
+use Rattle.std.specs.Prelude.{◌≡◌, ℕ, List, [], ◌++◌, Ok, codes}
 use Rattle.meter.specs.declared.measures.Terms.{Terms}
 use Rattle.kinds.specs.declared.profiles.Profile.{Profile}
 use Rattle.kinds.specs.declared.profiles.Profile.TheVariants.{Vs, Lb, Tb, Sr, Tr}

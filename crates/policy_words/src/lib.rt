@@ -1,5 +1,6 @@
 // The words of a policy: each reader takes what is left of a line, and answers what it read and what is left then.
 #![tactic(auto)]
+
 pub mod addresses;
 pub mod causes;
 pub mod choices;

@@ -2,13 +2,13 @@ use Rattle.std.proofs.Common.{rules}
 use Rattle.policy_text.specs.Amounts.{amount_of}
 use Rattle.policy_text.proofs.amounts.amount_word.Goals as goal
 
-pub returns-in-err-value : goal.returns-in-err-value
+pub returns-in_err-value : goal.returns-in_err-value
 unfolding amount_of
-returns-in-err-value c = search rules
+returns-in_err-value c = search rules
 
-pub returns-in-err-check : goal.returns-in-err-check
+pub returns-in_err-check : goal.returns-in_err-check
 unfolding amount_of
-returns-in-err-check c = search rules
+returns-in_err-check c = search rules
 
 pub returns : goal.returns
 unfolding amount_of

@@ -2,17 +2,17 @@ use Rattle.std.proofs.Common.{rules}
 use Rattle.policy_text.specs.Meters.{single_of}
 use Rattle.policy_text.proofs.meters.single_rate.Goals as goal
 
-pub returns-in-err-cir : goal.returns-in-err-cir
+pub returns-in_err-cir : goal.returns-in_err-cir
 unfolding single_of
-returns-in-err-cir c = search rules
+returns-in_err-cir c = search rules
 
-pub returns-in-err-ebs : goal.returns-in-err-ebs
+pub returns-in_err-ebs : goal.returns-in_err-ebs
 unfolding single_of
-returns-in-err-ebs c = search rules
+returns-in_err-ebs c = search rules
 
-pub returns-in-err-at : goal.returns-in-err-at
+pub returns-in_err-at : goal.returns-in_err-at
 unfolding single_of
-returns-in-err-at c = search rules
+returns-in_err-at c = search rules
 
 pub returns : goal.returns
 unfolding single_of

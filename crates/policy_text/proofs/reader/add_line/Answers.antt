@@ -18,18 +18,18 @@ returns-in-Ok c =
     elim c.match-line.branch [
       | in-Node w ↦
           let x = w.in-Node.node in
-          let a = w.add-node-added in
-          let m = w.meter-of.result in
+          let a = w.add_node-added in
+          let m = w.meter_of.result in
           let up = w.from-in-Node.result in
           same p a.new.self _ _ _ w.policy-is w.in-Node.is
-          (node_grown p a.new.self x w.from.result up m u w.from-in-Node.ensures w.meter-of.ensures
+          (node_grown p a.new.self x w.from.result up m u w.from-in-Node.ensures w.meter_of.ensures
           (subst (NodeAdded p a.new.self w.from.result up m) (sym w.added-is ∙ c.in-Ok.is) a.ensures))
       | in-Rule w ↦
           let r = w.in-Rule.rule in
-          let a = w.add-rule-added in
-          let m = w.meter-of-in-Rule.result in
+          let a = w.add_rule-added in
+          let m = w.meter_of-in-Rule.result in
           let up = w.from-in-Rule.result in
           same p a.new.self _ _ _ w.policy-is w.in-Rule.is
-          (rule_grown p a.new.self r up m u w.from-in-Rule.ensures w.meter-of-in-Rule.ensures
+          (rule_grown p a.new.self r up m u w.from-in-Rule.ensures w.meter_of-in-Rule.ensures
           (subst (RuleAdded p a.new.self r.selector up m) (sym w.added-is ∙ c.in-Ok.is) a.ensures))
     ]

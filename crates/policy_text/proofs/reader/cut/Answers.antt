@@ -7,7 +7,7 @@ use Rattle.policy_text.proofs.reader.cut.Goals as goal
 pub returns : goal.returns
 returns c =
     let t = c.args.text.now in
-    let n = c.line-len-n.result in
+    let n = c.line_len-n.result in
     let z : n ≡ n - 0 = omega arith in
-    ap (λ k. first_by k t) (sym c.line-len-n.ensures) ∙ first_ok n t c.if-n-text.false c.if-n-gt-LONGEST-LINE.false
+    ap (λ k. first_by k t) (sym c.line_len-n.ensures) ∙ first_ok n t c.if-n-text.false c.if-n-gt-LONGEST_LINE.false
     ∙ (λ i. Ok (take (z i) t, sym (take_rest t (n + 1)) i))

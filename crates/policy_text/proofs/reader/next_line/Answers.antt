@@ -2,13 +2,13 @@ use Rattle.std.proofs.Common.{rules}
 use Rattle.policy_text.specs.Policies.{step_of}
 use Rattle.policy_text.proofs.reader.next_line.Goals as goal
 
-pub returns-in-err-front : goal.returns-in-err-front
+pub returns-in_err-front : goal.returns-in_err-front
 unfolding step_of
-returns-in-err-front c = search rules
+returns-in_err-front c = search rules
 
-pub returns-in-err-line : goal.returns-in-err-line
+pub returns-in_err-line : goal.returns-in_err-line
 unfolding step_of
-returns-in-err-line c = search rules
+returns-in_err-line c = search rules
 
 pub returns : goal.returns
 unfolding step_of

@@ -43,36 +43,36 @@ again t p q n rest after x h some step grown = (
   omega (arith, h.4, step_less (n + 1) (parents_of p.tree) (length (vec_items p.rules)) rest (x, after) step),
 )
 
-pub returns-then-text-gt-MOST-BYTES : goal.returns-then-text-gt-MOST-BYTES
+pub returns-then-text-gt-MOST_BYTES : goal.returns-then-text-gt-MOST_BYTES
 unfolding read_text
-returns-then-text-gt-MOST-BYTES c =
+returns-then-text-gt-MOST_BYTES c =
     let t = c.args.text.now in
-    is_fault t _ (cond-true _ (lined 0 (Err broken)) _ (lt-ltb 65536 (length t) c.if-text-gt-MOST-BYTES.true))
+    is_fault t _ (cond-true _ (lined 0 (Err broken)) _ (lt-ltb 65536 (length t) c.if-text-gt-MOST_BYTES.true))
 
-pub returns-in-err-line : goal.returns-in-err-line
-returns-in-err-line c =
-    let e = err_from_is_err_and c.from-residual.result c.from-residual.ensures.1 in
+pub returns-in_err-line : goal.returns-in_err-line
+returns-in_err-line c =
+    let e = err_from_is_err_and c.from_residual.result c.from_residual.ensures.1 in
     let t = c.args.text.now in
     let l = c.loop-rest in
     let some : 0 < length l.rest.now = omega (arith, false-eqb _ 0 c.loop-rest-test.ensures) in
     subst (Answered t) (sym (e.1 ∙ ap Err e.2))
-    (is_fault t c.in-err-line.field-0.0 (stopped t l.policy l.number l.rest.now c.in-err-line.field-0.0 c.if-text-gt-MOST-BYTES.false l.invariant some c.in-err-line.ensures))
+    (is_fault t c.in_err-line.field-0.0 (stopped t l.policy l.number l.rest.now c.in_err-line.field-0.0 c.if-text-gt-MOST_BYTES.false l.invariant some c.in_err-line.ensures))
 
-pub add-line-requires : goal.add-line-requires
-add-line-requires c =
+pub add_line-requires : goal.add_line-requires
+add_line-requires c =
     let l = c.loop-rest in
-    step_fits (l.number + 1) (parents_of l.policy.tree) (length (vec_items l.policy.rules)) l.rest.now (c.in-ok-line.line, c.in-ok-line.after.now) c.in-ok-line.ensures
+    step_fits (l.number + 1) (parents_of l.policy.tree) (length (vec_items l.policy.rules)) l.rest.now (c.in_ok-line.line, c.in_ok-line.after.now) c.in_ok-line.ensures
 
 pub loop-rest-smaller : goal.loop-rest-smaller
 loop-rest-smaller c =
     let l = c.loop-rest in
-    step_less (l.number + 1) (parents_of l.policy.tree) (length (vec_items l.policy.rules)) l.rest.now (c.in-ok-line.line, c.in-ok-line.after.now) c.in-ok-line.ensures
+    step_less (l.number + 1) (parents_of l.policy.tree) (length (vec_items l.policy.rules)) l.rest.now (c.in_ok-line.line, c.in_ok-line.after.now) c.in_ok-line.ensures
 
 pub loop-rest-preserved : goal.loop-rest-preserved
 loop-rest-preserved c =
     let l = c.loop-rest in
     let some : 0 < length l.rest.now = omega (arith, false-eqb _ 0 c.loop-rest-test.ensures) in
-    again c.args.text.now l.policy _ l.number l.rest.now c.in-ok-line.after.now c.in-ok-line.line l.invariant some c.in-ok-line.ensures c.in-ok-add-line.ensures
+    again c.args.text.now l.policy _ l.number l.rest.now c.in_ok-line.after.now c.in_ok-line.line l.invariant some c.in_ok-line.ensures c.in_ok-add_line.ensures
 
 pub returns : goal.returns
 unfolding read_from
@@ -80,4 +80,4 @@ returns c =
     let t = c.args.text.now in
     let l = c.loop-rest in
     let nil = nil_from_length l.rest.now (true-eqb _ 0 c.loop-rest-test.ensures) in
-    is_policy t l.invariant.0 l.policy (short t c.if-text-gt-MOST-BYTES.false ∙ sym l.invariant.2 ∙ ap (read_after l.invariant.0) nil) l.invariant.1
+    is_policy t l.invariant.0 l.policy (short t c.if-text-gt-MOST_BYTES.false ∙ sym l.invariant.2 ∙ ap (read_after l.invariant.0) nil) l.invariant.1

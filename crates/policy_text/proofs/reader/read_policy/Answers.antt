@@ -4,8 +4,8 @@ use Rattle.policy_text.proofs.reader.read_policy.Goals as goal
 pub returns : goal.returns
 returns c =
     let t = c.args.text.now in
-    let r = c.read-lines.result in
-    let a = c.read-lines.ensures in
+    let r = c.read_lines.result in
+    let a = c.read_lines.ensures in
     record {
       value = a;
       canonical = is_canonical t r a;

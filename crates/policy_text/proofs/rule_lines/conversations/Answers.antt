@@ -2,17 +2,17 @@ use Rattle.std.proofs.Common.{rules}
 use Rattle.policy_text.specs.Lines.{conversations_of}
 use Rattle.policy_text.proofs.rule_lines.conversations.Goals as goal
 
-pub returns-in-err-source : goal.returns-in-err-source
+pub returns-in_err-source : goal.returns-in_err-source
 unfolding conversations_of
-returns-in-err-source c = search rules
+returns-in_err-source c = search rules
 
-pub returns-in-err-destination : goal.returns-in-err-destination
+pub returns-in_err-destination : goal.returns-in_err-destination
 unfolding conversations_of
-returns-in-err-destination c = search rules
+returns-in_err-destination c = search rules
 
-pub returns-in-err-protocol : goal.returns-in-err-protocol
+pub returns-in_err-protocol : goal.returns-in_err-protocol
 unfolding conversations_of
-returns-in-err-protocol c = search rules
+returns-in_err-protocol c = search rules
 
 pub returns : goal.returns
 unfolding conversations_of

@@ -2,17 +2,17 @@ use Rattle.std.proofs.Common.{rules}
 use Rattle.policy_text.specs.Lines.{mac_line_of}
 use Rattle.policy_text.proofs.rule_lines.read_mac.Goals as goal
 
-pub returns-in-err-station : goal.returns-in-err-station
+pub returns-in_err-station : goal.returns-in_err-station
 unfolding mac_line_of
-returns-in-err-station c = search rules
+returns-in_err-station c = search rules
 
-pub returns-in-err-parent : goal.returns-in-err-parent
+pub returns-in_err-parent : goal.returns-in_err-parent
 unfolding mac_line_of
-returns-in-err-parent c = search rules
+returns-in_err-parent c = search rules
 
-pub returns-in-err-meter : goal.returns-in-err-meter
+pub returns-in_err-meter : goal.returns-in_err-meter
 unfolding mac_line_of
-returns-in-err-meter c = search rules
+returns-in_err-meter c = search rules
 
 pub returns : goal.returns
 unfolding mac_line_of

@@ -2,21 +2,21 @@ use Rattle.std.proofs.Common.{rules}
 use Rattle.policy_text.specs.Lines.{node_line_of}
 use Rattle.policy_text.proofs.rule_lines.read_node.Goals as goal
 
-pub returns-in-err-at : goal.returns-in-err-at
+pub returns-in_err-at : goal.returns-in_err-at
 unfolding node_line_of
-returns-in-err-at c = search rules
+returns-in_err-at c = search rules
 
-pub returns-in-err-number : goal.returns-in-err-number
+pub returns-in_err-number : goal.returns-in_err-number
 unfolding node_line_of
-returns-in-err-number c = search rules
+returns-in_err-number c = search rules
 
-pub returns-in-err-parent : goal.returns-in-err-parent
+pub returns-in_err-parent : goal.returns-in_err-parent
 unfolding node_line_of
-returns-in-err-parent c = search rules
+returns-in_err-parent c = search rules
 
-pub returns-in-err-profile : goal.returns-in-err-profile
+pub returns-in_err-profile : goal.returns-in_err-profile
 unfolding node_line_of
-returns-in-err-profile c = search rules
+returns-in_err-profile c = search rules
 
 pub returns : goal.returns
 unfolding node_line_of

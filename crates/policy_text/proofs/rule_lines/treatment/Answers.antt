@@ -1,14 +1,15 @@
-use Rattle.std.proofs.Common.{rules}
+use Rattle.std.proofs.Common.{arith, rules}
+use Rattle.std.proofs.lemmas.Grind.{common_steps}
 use Rattle.policy_text.specs.Lines.{treatment_of}
 use Rattle.policy_text.proofs.rule_lines.treatment.Goals as goal
 
-pub returns-in-err-class : goal.returns-in-err-class
+pub returns-in_err-class : goal.returns-in_err-class
 unfolding treatment_of
-returns-in-err-class c = search rules
+returns-in_err-class c = search rules
 
-pub returns-in-err-mode : goal.returns-in-err-mode
+pub returns-in_err-mode : goal.returns-in_err-mode
 unfolding treatment_of
-returns-in-err-mode c = search rules
+returns-in_err-mode c = grind (arith, common_steps)
 
 pub returns : goal.returns
 unfolding treatment_of

@@ -2,13 +2,13 @@ use Rattle.std.proofs.Common.{rules}
 use Rattle.policy_text.specs.Lines.{under_word_of}
 use Rattle.policy_text.proofs.rule_lines.under_word.Goals as goal
 
-pub returns-in-err-value : goal.returns-in-err-value
+pub returns-in_err-value : goal.returns-in_err-value
 unfolding under_word_of
-returns-in-err-value c = search rules
+returns-in_err-value c = search rules
 
-pub returns-in-err-parent : goal.returns-in-err-parent
+pub returns-in_err-parent : goal.returns-in_err-parent
 unfolding under_word_of
-returns-in-err-parent c = search rules
+returns-in_err-parent c = search rules
 
 pub returns : goal.returns
 unfolding under_word_of

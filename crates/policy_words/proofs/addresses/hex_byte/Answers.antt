@@ -26,4 +26,4 @@ both (c ∷ (d ∷ t)) b l e =
 pub returns : goal.returns
 returns c =
     let l : 2 ≤ length c.args.text.now = search rules in
-    both c.args.text.now _ l c.in-ok-hex-pair.ensures
+    both c.args.text.now _ l c.in_ok-hex_pair.ensures

@@ -2,13 +2,13 @@ use Rattle.std.proofs.Common.{rules}
 use Rattle.policy_words.specs.Addresses.{octet_of}
 use Rattle.policy_words.proofs.addresses.octet.Goals as goal
 
-pub returns-in-err-value : goal.returns-in-err-value
+pub returns-in_err-value : goal.returns-in_err-value
 unfolding octet_of
-returns-in-err-value c = search rules
+returns-in_err-value c = search rules
 
-pub returns-in-err-byte : goal.returns-in-err-byte
+pub returns-in_err-byte : goal.returns-in_err-byte
 unfolding octet_of
-returns-in-err-byte c = search rules
+returns-in_err-byte c = search rules
 
 pub returns : goal.returns
 unfolding octet_of

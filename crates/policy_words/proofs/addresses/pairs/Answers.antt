@@ -25,14 +25,14 @@ ended i xs t h long =
     let z : 6 - i ≡ 0 = omega arith in
     (λ j. pairs_of (z j) (take_all i xs (omega arith) j) t)
 
-pub returns-in-err-b : goal.returns-in-err-b
-returns-in-err-b c =
-    let e = sym c.loop-i.invariant.0 ∙ broken c.loop-i.i (take c.loop-i.i c.loop-i.source) c.loop-i.rest.now _ c.loop-i-test.true c.in-err-b.ensures in
+pub returns-in_err-b : goal.returns-in_err-b
+returns-in_err-b c =
+    let e = sym c.loop-i.invariant.0 ∙ broken c.loop-i.i (take c.loop-i.i c.loop-i.source) c.loop-i.rest.now _ c.loop-i-test.true c.in_err-b.ensures in
     search rules
 
 pub loop-i-preserved : goal.loop-i-preserved
 loop-i-preserved c = (
-  step c.loop-i.i c.loop-i.source c.loop-i.rest.now _ _ c.loop-i-test.true c.loop-i.invariant.1 c.in-ok-b.ensures ∙ c.loop-i.invariant.0,
+  step c.loop-i.i c.loop-i.source c.loop-i.rest.now _ _ c.loop-i-test.true c.loop-i.invariant.1 c.in_ok-b.ensures ∙ c.loop-i.invariant.0,
   length-set c.loop-i.source c.loop-i.i _ ∙ c.loop-i.invariant.1,
 )
 

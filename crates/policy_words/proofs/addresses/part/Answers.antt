@@ -2,9 +2,9 @@ use Rattle.std.proofs.Common.{rules}
 use Rattle.policy_words.specs.Addresses.{part_of}
 use Rattle.policy_words.proofs.addresses.part.Goals as goal
 
-pub returns-in-err-value : goal.returns-in-err-value
+pub returns-in_err-value : goal.returns-in_err-value
 unfolding part_of
-returns-in-err-value c = search rules
+returns-in_err-value c = search rules
 
 pub returns-in-None : goal.returns-in-None
 unfolding part_of

@@ -2,17 +2,17 @@ use Rattle.std.proofs.Common.{rules}
 use Rattle.policy_words.specs.Addresses.{prefix_word_of}
 use Rattle.policy_words.proofs.addresses.prefix_word.Goals as goal
 
-pub returns-in-err-next : goal.returns-in-err-next
+pub returns-in_err-next : goal.returns-in_err-next
 unfolding prefix_word_of
-returns-in-err-next c = search rules
+returns-in_err-next c = search rules
 
-pub returns-in-err-address : goal.returns-in-err-address
+pub returns-in_err-address : goal.returns-in_err-address
 unfolding prefix_word_of
-returns-in-err-address c = search rules
+returns-in_err-address c = search rules
 
-pub returns-in-err-length : goal.returns-in-err-length
+pub returns-in_err-length : goal.returns-in_err-length
 unfolding prefix_word_of
-returns-in-err-length c = search rules
+returns-in_err-length c = search rules
 
 pub returns-then-stops : goal.returns-then-stops
 unfolding prefix_word_of

@@ -6,13 +6,13 @@ pub returns-in-Ok : goal.returns-in-Ok
 unfolding station_of
 returns-in-Ok c = search rules
 
-pub returns-in-err-next : goal.returns-in-err-next
+pub returns-in_err-next : goal.returns-in_err-next
 unfolding station_of
-returns-in-err-next c = search rules
+returns-in_err-next c = search rules
 
-pub returns-in-err-station : goal.returns-in-err-station
+pub returns-in_err-station : goal.returns-in_err-station
 unfolding station_of
-returns-in-err-station c = search rules
+returns-in_err-station c = search rules
 
 pub returns : goal.returns
 unfolding station_of

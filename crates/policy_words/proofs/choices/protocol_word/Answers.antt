@@ -6,13 +6,13 @@ pub returns-in-Ok : goal.returns-in-Ok
 unfolding protocol_of
 returns-in-Ok c = search rules
 
-pub returns-in-err-value : goal.returns-in-err-value
+pub returns-in_err-value : goal.returns-in_err-value
 unfolding protocol_of
-returns-in-err-value c = search rules
+returns-in_err-value c = search rules
 
-pub returns-in-err-byte : goal.returns-in-err-byte
+pub returns-in_err-byte : goal.returns-in_err-byte
 unfolding protocol_of
-returns-in-err-byte c = search rules
+returns-in_err-byte c = search rules
 
 pub returns : goal.returns
 unfolding protocol_of

@@ -24,16 +24,16 @@ first xs i l h =
     let q = and_parts _ _ p in
     (digit _ q.0, q.1)
 
-pub overflow-mul-sum : goal.overflow-mul-sum
-overflow-mul-sum c =
+pub overflow_mul-sum : goal.overflow_mul-sum
+overflow_mul-sum c =
     let l = few c.loop-d.d-index (omega arith) in
     omega (arith, l, c.loop-d.invariant.2)
 
-pub overflow-sub-d : goal.overflow-sub-d
-overflow-sub-d c = (first _ _ c.loop-d-test.true c.loop-d.invariant.1).0.0
+pub overflow_sub-d : goal.overflow_sub-d
+overflow_sub-d c = (first _ _ c.loop-d-test.true c.loop-d.invariant.1).0.0
 
-pub overflow-add-sum : goal.overflow-add-sum
-overflow-add-sum c =
+pub overflow_add-sum : goal.overflow_add-sum
+overflow_add-sum c =
     let l = few c.loop-d.d-index (omega arith) in
     let d = (first _ _ c.loop-d-test.true c.loop-d.invariant.1).0 in
     omega (arith, l, d.0, d.1, c.loop-d.invariant.2, c.from.ensures)
