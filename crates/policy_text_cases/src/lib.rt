@@ -1,5 +1,6 @@
 // Policies as text: the example and the mistakes of docs/POLICY.md, and every word at its bounds.
 #![tactic(auto)]
+
 #[cfg(test)]
 mod tests {
     use meter::metering::Meter;
@@ -77,7 +78,7 @@ mac any 0 lb 10000 0
     #[test]
     fn example_nodes(rt: HostRuntime) -> Result<(), Fail> {
         let policy = read_policy(rt.alloc(), EXAMPLE.as_bytes())?;
-        assert!(rt; policy.tree.parents() == &[0, 1, 1, 2]);
+        assert!(rt; policy.tree.parents() == [0, 1, 1, 2].as_slice());
         assert_eq!(rt; policy.tree.depth(3), Some(2));
         assert_eq!(rt; policy.tree.depth(4), Some(3));
         assert_eq!(rt; policy.rules.len(), 6);
