@@ -1,34 +1,33 @@
--- A capture has one reading, and what is written has the reading that it was written from.
-use Rattle.std.proofs.Common.{◌≡◌, ℕ, ◌+◌, Bool, true, false, cond, ltb, List, [], ◌∷◌, ◌++◌, map, length, take, drop, Some, None, Ok, Err, Result, sym, refl, ap, ◌∙◌, subst, append_assoc, arith}
+-- A capture has one reading, and each frame lies in it.
+use Rattle.std.proofs.Common.{◌≡◌, ℕ, ◌+◌, true, List, [], ◌∷◌, ◌++◌, map, length, take, drop, Some, None, Ok, Err, Result, sym, refl, ap, ◌∙◌, subst, append_assoc, arith}
+use Rattle.std.proofs.lemmas.Bool.Decides.{nat_tests}
 use Rattle.std.proofs.lemmas.List.{append-nil, append_cancel_left, length-append, drop_at, drop-drop, take_at}
 use Rattle.capture.specs.declared.layout.Order.{Order}
 use Rattle.capture.specs.declared.layout.Refusal.{Refusal}
-use Rattle.capture.specs.declared.layout.Refusal.TheVariants.{ShortFile}
 use Rattle.capture.specs.declared.layout.FileHeader.{FileHeader}
-use Rattle.capture.specs.declared.layout.Ending.{Ending}
 use Rattle.capture.specs.Records.{head_size, Entry, Good, record_bytes, whole, at_hand}
-use Rattle.capture.specs.Headers.{file_head_size, header_bytes, header_of, header_in, order_of}
-use Rattle.capture.specs.Reading.{PlacedEntry, placed_at, fault_at, header, handed, stopped, opening, following, next_of, written, Follow, AllGood, Spells, ending_of, Reads}
+use Rattle.capture.specs.Headers.{file_head_size, header_bytes, header_of}
+use Rattle.capture.specs.Reading.{PlacedEntry, placed_at, header, handed, following, next_of, written, Follow, AllGood, Spells, Ending, ending_of, Reads}
 use Rattle.capture.specs.Indexing.{index_entry_of}
-use Rattle.capture.specs.Laws.{ReadsAgree, IndexesAgree, WrittenReads, FramesLie}
+use Rattle.capture.specs.Laws.{ReadsAgree, IndexesAgree, FramesLie}
 use Rattle.capture.proofs.Entries.{read_again, good_written}
 use Rattle.capture.proofs.FileHeads.{header_again, header_long}
 use Rattle.capture.proofs.Going.{record_long}
 
 same_ending : (e e' : Ending) → ending_of e ≡ ending_of e' → e ≡ e'
-same_ending Ending.Whole Ending.Whole q = refl
-same_ending Ending.Whole (Ending.Fault f) q = let z : ◌≡◌ {A = ℕ} 0 1 = cc in absurd (omega arith)
-same_ending (Ending.Fault f) Ending.Whole q = let z : ◌≡◌ {A = ℕ} 0 1 = cc in absurd (omega arith)
-same_ending (Ending.Fault f) (Ending.Fault g) q = let same : f ≡ g = cc in ap (λ x. Ending.Fault x) same
+same_ending (Ok u) (Ok v) q = refl
+same_ending (Ok u) (Err f) q = cc
+same_ending (Err f) (Ok u) q = cc
+same_ending (Err f) (Err g) q = let same : f ≡ g = cc in ap (λ x. Err x) same
 
 -- neither a record nor a header is an ending
 no_record : (e : Ending) (r : PlacedEntry) → handed r ≡ ending_of e → ⊥
-no_record Ending.Whole r q = let z : ◌≡◌ {A = ℕ} 0 1 = cc in omega arith
-no_record (Ending.Fault f) r q = let z : ◌≡◌ {A = ℕ} 0 1 = cc in omega arith
+no_record (Ok u) r q = cc
+no_record (Err f) r q = cc
 
 no_header : (e : Ending) (h : FileHeader) → header h ≡ ending_of e → ⊥
-no_header Ending.Whole h q = let z : ◌≡◌ {A = ℕ} 0 1 = cc in omega arith
-no_header (Ending.Fault f) h q = let z : ◌≡◌ {A = ℕ} 0 1 = cc in omega arith
+no_header (Ok u) h q = cc
+no_header (Err f) h q = cc
 
 -- where a whole record stands, the capture does not end
 goes_past : (o : Order) (p : ℕ) (rest tail : List ℕ) (r : Entry) (e : Ending) → Good r → rest ≡ record_bytes o r ++ tail →
@@ -74,12 +73,7 @@ begins input h rs p rest k = ap header_of k.spelled ∙ header_again h (written 
 
 -- where there is a header, the capture does not end before it
 has_header : (input : List ℕ) (h : FileHeader) (p : ℕ) (e : Ending) → header_of input ≡ Ok h → next_of None true p input ≡ ending_of e → ⊥
-has_header input h p e k q = go (ltb (length input) file_head_size) refl k q
-  where
-    go : (b : Bool) → ltb (length input) file_head_size ≡ b → cond b (Err ShortFile) (header_in (order_of input) input) ≡ Ok h →
-        cond b (stopped (fault_at ShortFile 0)) (opening (header_of input)) ≡ ending_of e → ⊥
-    go true t x y = let z : ◌≡◌ {A = ℕ} 0 1 = cc in omega arith
-    go false t x y = no_header e h (sym (ap opening k) ∙ y)
+has_header input h p e k q = grind (arith, nat_tests, no_header)
 
 unheaded : (input : List ℕ) (h : FileHeader) (rs rs' : List PlacedEntry) (e e' : Ending) → Reads input None rs e → Reads input (Some h) rs' e' → ⊥
 unheaded input h rs rs' e e' n s =
@@ -112,15 +106,6 @@ pub indexes_agree : IndexesAgree
 indexes_agree input x y a b =
     let same = reads_agree input x.header y.header a.records b.records x.ending y.ending a.reads b.reads in
     (same.0, a.listed ∙ ap (λ rs. map index_entry_of rs) same.1 ∙ sym b.listed, same.2)
-
-pub written_reads : WrittenReads
-written_reads h rs end fit good follow =
-    record {
-      place = end;
-      rest = [];
-      handed_out = record { fit = fit; good = good; follow = follow; spelled = ap (λ l. header_bytes h ++ l) (sym (append-nil (written h.order rs))) };
-      ends = refl;
-    }
 
 -- a record stands at its place
 stands : (o : Order) (before : List ℕ) (xs : List PlacedEntry) (r : PlacedEntry) (ys : List PlacedEntry) (p q : ℕ) (tail : List ℕ) → length before ≡ p →

@@ -1,14 +1,14 @@
 -- Records and their bytes: what is read, written, is the front of the bytes, and what is written is read again.
-use Rattle.std.proofs.Common.{◌≡◌, ℕ, ◌+◌, ◌^◌, ◌<◌, ◌≤◌, Bool, true, false, cond, ◌&&◌, ltb, leb, List, ◌++◌, length, take, drop, Ok, Err, Result, sym, refl, ap, ◌∙◌, append_assoc, arith, ltb-false, ltb-true, le-ltb, leb-true}
+use Rattle.std.proofs.Common.{◌≡◌, ℕ, ◌+◌, ◌^◌, ◌<◌, ◌≤◌, List, ◌++◌, length, take, drop, Ok, Err, Result, sym, refl, ap, ◌∙◌, append_assoc, arith}
 use Rattle.std.proofs.lemmas.List.{take-append-drop, drop-drop, length-drop, length-take-le, length-append, take_at, drop-append-le, take-append-le}
-use Rattle.std.proofs.lemmas.Bool.{cond-false, and_parts}
+use Rattle.std.proofs.lemmas.Bool.Decides.{nat_tests}
 use Rattle.capture.specs.declared.layout.Order.{Order}
 use Rattle.capture.specs.declared.layout.Order.TheVariants.{Little, Big}
 use Rattle.capture.specs.declared.layout.Refusal.{Refusal}
-use Rattle.capture.specs.declared.layout.Refusal.TheVariants.{BadFraction, BadLength}
+use Rattle.std.specs.Int.{w32}
 use Rattle.capture.specs.Numbers.{word_bytes, word_at, Bytes}
-use Rattle.capture.specs.Records.{most_fraction, most_original, most_captured, head_size, lengths_allowed, check_of, Entry, Good, record_bytes, whole, lacking, entry_at, framed, at_hand, Fronts, Stays}
-use Rattle.capture.proofs.Words.{four_of, four_of_high, word_off, word_small, word_stays}
+use Rattle.capture.specs.Records.{most_fraction, most_original, most_captured, head_size, check_of, check_at, Entry, Good, record_bytes, whole, entry_at, framed, at_hand, Fronts, Stays}
+use Rattle.capture.proofs.Words.{words, number_off, word_small, number_stays}
 
 -- a record that passes has small numbers
 pub record Small (m c l : ℕ) : Type 0 where
@@ -19,23 +19,14 @@ pub record Small (m c l : ℕ) : Type 0 where
   pub captured : c ≤ most_captured
 
 pub small_from_check : (m c l : ℕ) → check_of m c l ≡ Ok tt → Small m c l
-small_from_check m c l e = go (leb m most_fraction) refl (lengths_allowed c l) refl e
-  where
-    go : (a : Bool) → leb m most_fraction ≡ a → (b : Bool) → lengths_allowed c l ≡ b →
-        ◌≡◌ {A = Result (Unit {0}) Refusal} (cond a (cond b (Ok tt) (Err BadLength)) (Err BadFraction)) (Ok tt) → Small m c l
-    go true p true q r =
-        let halves = and_parts (ltb 0 l && leb l most_original) (leb c l && leb c most_captured) q in
-        let first = and_parts (ltb 0 l) (leb l most_original) halves.0 in
-        let second = and_parts (leb c l) (leb c most_captured) halves.1 in
-        record {
-          fraction = leb-true m most_fraction p;
-          some = ltb-true 0 l first.0;
-          original = leb-true l most_original first.1;
-          within = leb-true c l second.0;
-          captured = leb-true c most_captured second.1;
-        }
-    go true p false q r = let z : ◌≡◌ {A = ℕ} 0 1 = cc in absurd (omega arith)
-    go false p b q r = let z : ◌≡◌ {A = ℕ} 0 1 = cc in absurd (omega arith)
+small_from_check m c l e =
+    record {
+      fraction = grind (arith, nat_tests);
+      some = grind (arith, nat_tests);
+      original = grind (arith, nat_tests);
+      within = grind (arith, nat_tests);
+      captured = grind (arith, nat_tests);
+    }
 
 -- a header comes off the front
 pub head_off : (o : Order) (bs : List ℕ) → Bytes bs → head_size ≤ length bs →
@@ -44,13 +35,13 @@ head_off o bs small h =
     let h0 : 4 ≤ length bs = omega arith in
     let h4 : 8 ≤ length bs = omega arith in
     let h8 : 12 ≤ length bs = omega arith in
-    word_off o bs 0 small h0
-    ∙ ap (λ l. word_bytes o (word_at o bs 0) ++ l) (word_off o bs 4 small h4
-    ∙ ap (λ l. word_bytes o (word_at o bs 4) ++ l) (word_off o bs 8 small h8
-    ∙ ap (λ l. word_bytes o (word_at o bs 8) ++ l) (word_off o bs 12 small h)))
+    number_off words o bs 0 small h0
+    ∙ ap (λ l. word_bytes o (word_at o bs 0) ++ l) (number_off words o bs 4 small h4
+    ∙ ap (λ l. word_bytes o (word_at o bs 4) ++ l) (number_off words o bs 8 small h8
+    ∙ ap (λ l. word_bytes o (word_at o bs 8) ++ l) (number_off words o bs 12 small h)))
 
 module _ (o : Order) (bs : List ℕ) (small : Bytes bs) where
-  frame_fronts : check_of (word_at o bs 4) (word_at o bs 8) (word_at o bs 12) ≡ Ok tt → head_size + word_at o bs 8 ≤ length bs → Fronts o bs (whole (entry_at o bs))
+  frame_fronts : check_at o bs ≡ Ok tt → head_size + word_at o bs 8 ≤ length bs → Fronts o bs (whole (entry_at o bs))
   frame_fronts e h =
       let n = word_at o bs 8 in
       let frame = take n (drop head_size bs) in
@@ -67,30 +58,18 @@ module _ (o : Order) (bs : List ℕ) (small : Bytes bs) where
         spelled ∙ ap (λ k. ((word_bytes o (word_at o bs 0) ++ (word_bytes o (word_at o bs 4) ++ (word_bytes o k ++ word_bytes o (word_at o bs 12)))) ++ frame) ++ drop (head_size + k) bs) (sym len),
       )
 
-  framed_fronts : (r : Result (Unit {0}) Refusal) → check_of (word_at o bs 4) (word_at o bs 8) (word_at o bs 12) ≡ r → Fronts o bs (framed r o bs)
+  framed_fronts : (r : Result (Unit {0}) Refusal) → check_at o bs ≡ r → Fronts o bs (framed r o bs)
   framed_fronts (Err f) e = tt
-  framed_fronts (Ok u) e = go (ltb (length bs) (head_size + word_at o bs 8)) refl
-    where
-      go : (b : Bool) → ltb (length bs) (head_size + word_at o bs 8) ≡ b → Fronts o bs (cond b (lacking (head_size + word_at o bs 8)) (whole (entry_at o bs)))
-      go true t = ltb-true (length bs) (head_size + word_at o bs 8) t
-      go false t = frame_fronts e (ltb-false (length bs) (head_size + word_at o bs 8) t)
+  framed_fronts (Ok u) e = grind (arith, nat_tests, frame_fronts)
 
   -- the record that bytes give is good and, written, is their front
   pub fronts : Fronts o bs (at_hand o bs)
-  fronts = go (ltb (length bs) head_size) refl
-    where
-      go : (b : Bool) → ltb (length bs) head_size ≡ b → Fronts o bs (cond b (lacking head_size) (framed (check_of (word_at o bs 4) (word_at o bs 8) (word_at o bs 12)) o bs))
-      go true t = ltb-true (length bs) head_size t
-      go false t = framed_fronts (check_of (word_at o bs 4) (word_at o bs 8) (word_at o bs 12)) refl
+  fronts = grind (arith, nat_tests, framed_fronts)
 
 -- what the checks come to where they all pass
-pub whole_at : (o : Order) (bs : List ℕ) → check_of (word_at o bs 4) (word_at o bs 8) (word_at o bs 12) ≡ Ok tt → head_size + word_at o bs 8 ≤ length bs →
+pub whole_at : (o : Order) (bs : List ℕ) → check_at o bs ≡ Ok tt → head_size + word_at o bs 8 ≤ length bs →
     at_hand o bs ≡ whole (entry_at o bs)
-whole_at o bs e h =
-    let h16 : head_size ≤ length bs = omega arith in
-    cond-false (ltb (length bs) head_size) (lacking head_size) (framed (check_of (word_at o bs 4) (word_at o bs 8) (word_at o bs 12)) o bs) (le-ltb (length bs) head_size h16)
-    ∙ ap (λ r. framed r o bs) e
-    ∙ cond-false (ltb (length bs) (head_size + word_at o bs 8)) (lacking (head_size + word_at o bs 8)) (whole (entry_at o bs)) (le-ltb (length bs) (head_size + word_at o bs 8) h)
+whole_at o bs e h = grind (arith, nat_tests)
 
 pub same_entry : {s s' m m' l l' : ℕ} {f f' : List ℕ} → s ≡ s' → m ≡ m' → l ≡ l' → f ≡ f' →
     ◌≡◌ {A = Entry} (record { seconds = s; microseconds = m; original = l; frame = f }) (record { seconds = s'; microseconds = m'; original = l'; frame = f' })
@@ -109,19 +88,19 @@ words_written : (o : Order) (e : Entry) (rest : List ℕ) → e.seconds < 2 ^ 32
     Written o e (record_bytes o e ++ rest) rest
 words_written Little e rest s m c l =
     record {
-      seconds = four_of e.seconds s;
-      microseconds = four_of e.microseconds m;
-      captured = four_of (length e.frame) c;
-      original = four_of e.original l;
+      seconds = words.read Little e.seconds s;
+      microseconds = words.read Little e.microseconds m;
+      captured = words.read Little (length e.frame) c;
+      original = words.read Little e.original l;
       behind = refl;
       long = omega (arith, length-append e.frame rest);
     }
 words_written Big e rest s m c l =
     record {
-      seconds = four_of_high e.seconds s;
-      microseconds = four_of_high e.microseconds m;
-      captured = four_of_high (length e.frame) c;
-      original = four_of_high e.original l;
+      seconds = words.read Big e.seconds s;
+      microseconds = words.read Big e.microseconds m;
+      captured = words.read Big (length e.frame) c;
+      original = words.read Big e.original l;
       behind = refl;
       long = omega (arith, length-append e.frame rest);
     }
@@ -136,7 +115,7 @@ pub read_again : (o : Order) (e : Entry) (rest : List ℕ) → Good e → at_han
 read_again o e rest g =
     let bs = record_bytes o e ++ rest in
     let w = good_written o e rest g in
-    let numbers : check_of (word_at o bs 4) (word_at o bs 8) (word_at o bs 12) ≡ Ok tt =
+    let numbers : check_at o bs ≡ Ok tt =
     ap (λ k. check_of k (word_at o bs 8) (word_at o bs 12)) w.microseconds
     ∙ ap (λ k. check_of e.microseconds k (word_at o bs 12)) w.captured
     ∙ ap (λ k. check_of e.microseconds (length e.frame) k) w.original ∙ g.numbers in
@@ -147,16 +126,16 @@ read_again o e rest g =
 
 -- what follows changes nothing that is decided
 module _ (o : Order) (bs more : List ℕ) where
-  frame_stays : check_of (word_at o bs 4) (word_at o bs 8) (word_at o bs 12) ≡ Ok tt → head_size + word_at o bs 8 ≤ length bs →
+  frame_stays : check_at o bs ≡ Ok tt → head_size + word_at o bs 8 ≤ length bs →
       Stays (whole (entry_at o bs)) (at_hand o (bs ++ more))
   frame_stays e h =
       let n = word_at o bs 8 in
       let all : length (bs ++ more) ≡ length bs + length more = length-append bs more in
-      let w0 = word_stays o bs more 0 (omega arith) in
-      let w4 = word_stays o bs more 4 (omega arith) in
-      let w8 = word_stays o bs more 8 (omega arith) in
-      let w12 = word_stays o bs more 12 (omega arith) in
-      let numbers : check_of (word_at o (bs ++ more) 4) (word_at o (bs ++ more) 8) (word_at o (bs ++ more) 12) ≡ Ok tt =
+      let w0 = number_stays w32 o bs more 0 (omega arith) in
+      let w4 = number_stays w32 o bs more 4 (omega arith) in
+      let w8 = number_stays w32 o bs more 8 (omega arith) in
+      let w12 = number_stays w32 o bs more 12 (omega arith) in
+      let numbers : check_at o (bs ++ more) ≡ Ok tt =
       ap (λ k. check_of k (word_at o (bs ++ more) 8) (word_at o (bs ++ more) 12)) w4
       ∙ ap (λ k. check_of (word_at o bs 4) k (word_at o (bs ++ more) 12)) w8
       ∙ ap (λ k. check_of (word_at o bs 4) n k) w12 ∙ e in
@@ -169,31 +148,20 @@ module _ (o : Order) (bs more : List ℕ) where
       ∙ take-append-le n (drop head_size bs) more enough in
       whole_at o (bs ++ more) numbers room ∙ ap (λ x. whole x) (same_entry w0 w4 w12 frame)
 
-  framed_stays : (r : Result (Unit {0}) Refusal) → check_of (word_at o bs 4) (word_at o bs 8) (word_at o bs 12) ≡ r → head_size ≤ length bs →
+  framed_stays : (r : Result (Unit {0}) Refusal) → check_at o bs ≡ r → head_size ≤ length bs →
       Stays (framed r o bs) (at_hand o (bs ++ more))
-  framed_stays (Ok u) e h = go (ltb (length bs) (head_size + word_at o bs 8)) refl
-    where
-      go : (b : Bool) → ltb (length bs) (head_size + word_at o bs 8) ≡ b →
-          Stays (cond b (lacking (head_size + word_at o bs 8)) (whole (entry_at o bs))) (at_hand o (bs ++ more))
-      go true t = tt
-      go false t = frame_stays e (ltb-false (length bs) (head_size + word_at o bs 8) t)
+  framed_stays (Ok u) e h = grind (arith, nat_tests, frame_stays)
   framed_stays (Err f) e h =
       let all : length (bs ++ more) ≡ length bs + length more = length-append bs more in
       let longer : head_size ≤ length (bs ++ more) = omega (arith, all) in
-      let w4 = word_stays o bs more 4 (omega arith) in
-      let w8 = word_stays o bs more 8 (omega arith) in
-      let w12 = word_stays o bs more 12 (omega arith) in
-      let numbers : check_of (word_at o (bs ++ more) 4) (word_at o (bs ++ more) 8) (word_at o (bs ++ more) 12) ≡ Err f =
+      let w4 = number_stays w32 o bs more 4 (omega arith) in
+      let w8 = number_stays w32 o bs more 8 (omega arith) in
+      let w12 = number_stays w32 o bs more 12 (omega arith) in
+      let numbers : check_at o (bs ++ more) ≡ Err f =
       ap (λ k. check_of k (word_at o (bs ++ more) 8) (word_at o (bs ++ more) 12)) w4
       ∙ ap (λ k. check_of (word_at o bs 4) k (word_at o (bs ++ more) 12)) w8
       ∙ ap (λ k. check_of (word_at o bs 4) (word_at o bs 8) k) w12 ∙ e in
-      cond-false (ltb (length (bs ++ more)) head_size) (lacking head_size) (framed (check_of (word_at o (bs ++ more) 4) (word_at o (bs ++ more) 8) (word_at o (bs ++ more) 12)) o (bs ++ more)) (le-ltb (length (bs ++ more)) head_size longer)
-      ∙ ap (λ r. framed r o (bs ++ more)) numbers
+      grind (arith, nat_tests, numbers, longer)
 
   pub stays : Stays (at_hand o bs) (at_hand o (bs ++ more))
-  stays = go (ltb (length bs) head_size) refl
-    where
-      go : (b : Bool) → ltb (length bs) head_size ≡ b →
-          Stays (cond b (lacking head_size) (framed (check_of (word_at o bs 4) (word_at o bs 8) (word_at o bs 12)) o bs)) (at_hand o (bs ++ more))
-      go true t = tt
-      go false t = framed_stays (check_of (word_at o bs 4) (word_at o bs 8) (word_at o bs 12)) refl (ltb-false (length bs) head_size t)
+  stays = grind (arith, nat_tests, framed_stays)

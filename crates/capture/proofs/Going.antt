@@ -1,17 +1,16 @@
 -- Reading goes on from what was handed out, and settles what the capture has.
-use Rattle.std.proofs.Common.{◌≡◌, ℕ, ◌+◌, ◌<◌, ◌≤◌, Bool, true, false, cond, eqb, ltb, List, [], ◌∷◌, ◌++◌, length, drop, Some, None, Ok, Err, Option, Result, sym, refl, ap, ◌∙◌, subst, append_assoc, add-zero, arith, ltb-false, ltb-true, le-ltb}
+use Rattle.std.proofs.Common.{◌≡◌, ℕ, ◌+◌, ◌<◌, Bool, true, false, List, [], ◌∷◌, ◌++◌, length, drop, Some, None, Ok, Err, Option, Result, sym, refl, ap, ◌∙◌, subst, append_assoc, add-zero, arith}
 use Rattle.std.proofs.lemmas.List.{append-nil, length-append}
-use Rattle.std.proofs.lemmas.Bool.{cond-false}
+use Rattle.std.proofs.lemmas.Bool.Decides.{nat_tests}
 use Rattle.capture.specs.declared.layout.Order.{Order}
 use Rattle.capture.specs.declared.layout.Order.TheVariants.{Little, Big}
 use Rattle.capture.specs.declared.layout.Refusal.{Refusal}
-use Rattle.capture.specs.declared.layout.Refusal.TheVariants.{ShortFile, Incomplete}
 use Rattle.capture.specs.declared.layout.FileHeader.{FileHeader}
 use Rattle.capture.specs.declared.layout.Fault.{Fault}
 use Rattle.capture.specs.Numbers.{Bytes}
 use Rattle.capture.specs.Records.{head_size, Entry, Good, record_bytes, AtHand, whole, lacking, faulty, at_hand, Fronts, Stays}
-use Rattle.capture.specs.Headers.{file_head_size, header_bytes, header_of, HeaderFronts}
-use Rattle.capture.specs.Reading.{PlacedEntry, placed_at, fault_at, Coming, header, handed, wanting, ended, stopped, when_closed, opening, following, next_of, takes, header_after, records_in, written, Follow, AllGood, Spells, HandedOut, GoesOn, Settles}
+use Rattle.capture.specs.Headers.{file_head_size, header_bytes, HeaderFronts}
+use Rattle.capture.specs.Reading.{PlacedEntry, placed_at, Coming, header, handed, wanting, ended, stopped, opening, following, next_of, written, Follow, AllGood, Spells, HandedOut, GoesOn, Settles}
 use Rattle.capture.proofs.Entries.{fronts, stays}
 use Rattle.capture.proofs.FileHeads.{header_fronts, header_stays, header_long}
 
@@ -45,11 +44,7 @@ module _ (p : ℕ) (u : List ℕ) (small : Bytes u) where
   following_goes : (h : FileHeader) (closed : Bool) (x : AtHand) → Fronts h.order u x → GoesOn (Some h) p u (following closed p u x)
   following_goes h closed (faulty f) t input rs k = unmoved (Some h) rs p u input k
   following_goes h false (lacking n) t input rs k = unmoved (Some h) rs p u input k
-  following_goes h true (lacking n) t input rs k = go (eqb (length u) 0)
-    where
-      go : (b : Bool) → let x = cond b ended (stopped (fault_at Incomplete p)) in HandedOut (header_after (Some h) x) (rs ++ records_in x) (p + takes x) (drop (takes x) u) input
-      go true = unmoved (Some h) rs p u input k
-      go false = unmoved (Some h) rs p u input k
+  following_goes h true (lacking n) t input rs k = grind (arith, nat_tests, unmoved)
   following_goes h closed (whole e) t input rs k =
       let o = h.order in
       let rest = drop (head_size + length e.frame) u in
@@ -65,12 +60,8 @@ module _ (p : ℕ) (u : List ℕ) (small : Bytes u) where
 
   pub goes_on : (h : Option FileHeader) (closed : Bool) → GoesOn h p u (next_of h closed p u)
   goes_on (Some h) closed input rs k = following_goes h closed (at_hand h.order u) (fronts h.order u small) input rs k
-  goes_on None closed input rs k = go (ltb (length u) file_head_size) closed
-    where
-      go : (b c : Bool) → let x = cond b (when_closed c file_head_size (stopped (fault_at ShortFile 0))) (opening (header_of u)) in HandedOut (header_after None x) (rs ++ records_in x) (p + takes x) (drop (takes x) u) input
-      go true true = unmoved None rs p u input k
-      go true false = unmoved None rs p u input k
-      go false c = opening_goes (header_of u) (header_fronts u small) input rs k
+  goes_on None true input rs k = grind (arith, nat_tests, unmoved, opening_goes, header_fronts)
+  goes_on None false input rs k = grind (arith, nat_tests, unmoved, opening_goes, header_fronts)
 
 -- more input changes nothing that was handed out
 pub more_out : (h : Option FileHeader) (rs : List PlacedEntry) (p : ℕ) (u input more : List ℕ) → HandedOut h rs p u input → HandedOut h rs p (u ++ more) (input ++ more)
@@ -86,76 +77,59 @@ more_out (Some h) rs p u input more k =
 -- a fault before the end stays, whatever follows
 following_stops : (h : FileHeader) (p : ℕ) (u more : List ℕ) (f : Fault) (x : AtHand) → Stays x (at_hand h.order (u ++ more)) →
     following false p u x ≡ stopped f → following true p (u ++ more) (at_hand h.order (u ++ more)) ≡ stopped f
-following_stops h p u more f (whole e) s q = let z : ◌≡◌ {A = ℕ} 0 1 = cc in absurd (omega arith)
-following_stops h p u more f (lacking n) s q = let z : ◌≡◌ {A = ℕ} 0 1 = cc in absurd (omega arith)
+following_stops h p u more f (whole e) s q = cc
+following_stops h p u more f (lacking n) s q = cc
 following_stops h p u more f (faulty g) s q = ap (λ x. following true p (u ++ more) x) s ∙ q
 
 pub stop_stays : (h : Option FileHeader) (p : ℕ) (u more : List ℕ) (f : Fault) → next_of h false p u ≡ stopped f → next_of h true p (u ++ more) ≡ stopped f
 stop_stays (Some h) p u more f q = following_stops h p u more f (at_hand h.order u) (stays h.order u more) q
-stop_stays None p u more f q = go (ltb (length u) file_head_size) refl q
-  where
-    go : (b : Bool) → ltb (length u) file_head_size ≡ b → cond b (wanting file_head_size) (opening (header_of u)) ≡ stopped f → next_of None true p (u ++ more) ≡ stopped f
-    go true t e = let z : ◌≡◌ {A = ℕ} 0 1 = cc in absurd (omega arith)
-    go false t e =
-        let long : file_head_size ≤ length u = ltb-false (length u) file_head_size t in
-        let longer : file_head_size ≤ length (u ++ more) = omega (arith, length-append u more) in
-        cond-false (ltb (length (u ++ more)) file_head_size) (stopped (fault_at ShortFile 0)) (opening (header_of (u ++ more))) (le-ltb (length (u ++ more)) file_head_size longer)
-        ∙ ap opening (header_stays u more long) ∙ e
+stop_stays None p u more f q = let longer = length-append u more in grind (arith, nat_tests, header_stays, longer)
 
 -- more is wanted only of too few bytes, and never of a closed input
 module _ (p : ℕ) (u : List ℕ) where
   following_wants : (h : FileHeader) (closed : Bool) (x : AtHand) → Fronts h.order u x → (n : ℕ) → following closed p u x ≡ wanting n →
       (length u < n) × (closed ≡ false)
-  following_wants h closed (whole e) t n q = let z : ◌≡◌ {A = ℕ} 0 1 = cc in absurd (omega arith)
-  following_wants h closed (faulty f) t n q = let z : ◌≡◌ {A = ℕ} 0 1 = cc in absurd (omega arith)
+  following_wants h closed (whole e) t n q = cc
+  following_wants h closed (faulty f) t n q = cc
   following_wants h false (lacking m) t n q = let same : m ≡ n = cc in (omega (arith, same, t), refl)
-  following_wants h true (lacking m) t n q = absurd (go (eqb (length u) 0) q)
-    where
-      go : (b : Bool) → cond b ended (stopped (fault_at Incomplete p)) ≡ wanting n → ⊥
-      go true e = let z : ◌≡◌ {A = ℕ} 0 1 = cc in omega arith
-      go false e = let z : ◌≡◌ {A = ℕ} 0 1 = cc in omega arith
+  following_wants h true (lacking m) t n q = grind (arith, nat_tests)
 
   opening_never : (r : Result FileHeader Refusal) (n : ℕ) → opening r ≡ wanting n → ⊥
-  opening_never (Ok h) n q = let z : ◌≡◌ {A = ℕ} 0 1 = cc in omega arith
-  opening_never (Err f) n q = let z : ◌≡◌ {A = ℕ} 0 1 = cc in omega arith
+  opening_never (Ok h) n q = cc
+  opening_never (Err f) n q = cc
 
   pub wants : Bytes u → (h : Option FileHeader) (closed : Bool) (n : ℕ) → next_of h closed p u ≡ wanting n → (length u < n) × (closed ≡ false)
   wants small (Some h) closed n q = following_wants h closed (at_hand h.order u) (fronts h.order u small) n q
-  wants small None closed n q = go (ltb (length u) file_head_size) refl closed q
-    where
-      go : (b : Bool) → ltb (length u) file_head_size ≡ b → (c : Bool) → cond b (when_closed c file_head_size (stopped (fault_at ShortFile 0))) (opening (header_of u)) ≡ wanting n →
-          (length u < n) × (c ≡ false)
-      go true t true e = let z : ◌≡◌ {A = ℕ} 0 1 = cc in absurd (omega arith)
-      go true t false e = let same : file_head_size ≡ n = cc in (omega (arith, same, ltb-true (length u) file_head_size t), refl)
-      go false t c e = absurd (opening_never (header_of u) n e)
+  wants small None true n q = grind (arith, nat_tests, opening_never)
+  wants small None false n q = grind (arith, nat_tests, opening_never)
 
   -- an input that is not closed has not ended
   following_open : (h : FileHeader) (x : AtHand) → following false p u x ≡ ended → ⊥
-  following_open h (whole e) q = let z : ◌≡◌ {A = ℕ} 0 1 = cc in omega arith
-  following_open h (lacking n) q = let z : ◌≡◌ {A = ℕ} 0 1 = cc in omega arith
-  following_open h (faulty f) q = let z : ◌≡◌ {A = ℕ} 0 1 = cc in omega arith
+  following_open h (whole e) q = cc
+  following_open h (lacking n) q = cc
+  following_open h (faulty f) q = cc
 
   opening_open : (r : Result FileHeader Refusal) → opening r ≡ ended → ⊥
-  opening_open (Ok h) q = let z : ◌≡◌ {A = ℕ} 0 1 = cc in omega arith
-  opening_open (Err f) q = let z : ◌≡◌ {A = ℕ} 0 1 = cc in omega arith
+  opening_open (Ok h) q = cc
+  opening_open (Err f) q = cc
 
   pub still_open : (h : Option FileHeader) → next_of h false p u ≡ ended → ⊥
   still_open (Some h) q = following_open h (at_hand h.order u) q
-  still_open None q = go (ltb (length u) file_head_size) q
-    where
-      go : (b : Bool) → cond b (wanting file_head_size) (opening (header_of u)) ≡ ended → ⊥
-      go true e = let z : ◌≡◌ {A = ℕ} 0 1 = cc in omega arith
-      go false e = opening_open (header_of u) e
+  still_open None q = grind (arith, nat_tests, opening_open)
 
-pub settled : (h : Option FileHeader) (closed : Bool) (p : ℕ) (u : List ℕ) → Bytes u → (x : Coming) → next_of h closed p u ≡ x → Settles h closed p u x
-settled h closed p u small (header k) q = tt
-settled h closed p u small (handed r) q = tt
-settled h closed p u small (wanting n) q = wants p u small h closed n q
-settled h true p u small ended q = λ input rs k. (refl, record { place = p; rest = u; handed_out = k; ends = q })
-settled h false p u small ended q = absurd (still_open p u h q)
-settled h true p u small (stopped f) q = λ input rs k. record { place = p; rest = u; handed_out = k; ends = q }
-settled h false p u small (stopped f) q =
-    λ input more rs k. record { place = p; rest = u ++ more; handed_out = more_out h rs p u input more k; ends = stop_stays h p u more f q }
+-- the same of any answer that is what comes next
+pub next_goes : (h : Option FileHeader) (closed : Bool) (p : ℕ) (u : List ℕ) → Bytes u → (x : Coming) → x ≡ next_of h closed p u → GoesOn h p u x
+next_goes h closed p u small x is = subst (λ y. GoesOn h p u y) (sym is) (goes_on p u small h closed)
+
+pub next_settles : (h : Option FileHeader) (closed : Bool) (p : ℕ) (u : List ℕ) → Bytes u → (x : Coming) → x ≡ next_of h closed p u → Settles h closed p u x
+next_settles h closed p u small (header k) is = tt
+next_settles h closed p u small (handed r) is = tt
+next_settles h closed p u small (wanting n) is = wants p u small h closed n (sym is)
+next_settles h true p u small ended is = λ input rs k. (refl, record { place = p; rest = u; handed_out = k; ends = sym is })
+next_settles h false p u small ended is = absurd (still_open p u h (sym is))
+next_settles h true p u small (stopped f) is = λ input rs k. record { place = p; rest = u; handed_out = k; ends = sym is }
+next_settles h false p u small (stopped f) is =
+    λ input more rs k. record { place = p; rest = u ++ more; handed_out = more_out h rs p u input more k; ends = stop_stays h p u more f (sym is) }
 
 -- the place and the bytes at hand count the input
 pub record_long : (o : Order) (e : Entry) → length (record_bytes o e) ≡ head_size + length e.frame

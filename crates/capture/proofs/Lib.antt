@@ -5,3 +5,4 @@ pub mod Going
 pub mod Passing
 pub mod Listing
 pub mod Agreeing
+pub mod Spelt

@@ -1,5 +1,7 @@
 -- A capture that is read in blocks.
 -- unread_of: the bytes that have come in and are not passed; comes: what comes next
+-- Continues: what comes next goes on from what was handed out
+-- Settled: at the end or at a fault, what was handed out is all that the capture has
 -- Fed: these bytes have come in so far, and these records were handed out of them
 -- Fresh: nothing has come in; Moved: the same but for what was passed; Grown: the same but for a block more
 -- NotTaken: why a block is not taken in
@@ -8,13 +10,19 @@ use Rattle.std.specs.Prelude.{◌≡◌, ℕ, ◌+◌, ◌^◌, ◌<◌, ◌≤�
 use Rattle.capture.specs.declared.layout.FeedError.{FeedError}
 use Rattle.capture.specs.declared.layout.FeedError.TheVariants.{Closed, TooLong, NoMemory}
 use Rattle.capture.specs.declared.blocks.Blocks.{Blocks}
-use Rattle.capture.specs.Reading.{PlacedEntry, Coming, next_of, takes, header_after, records_in, HandedOut}
+use Rattle.capture.specs.Reading.{PlacedEntry, Coming, next_of, takes, header_after, records_in, HandedOut, GoesOn, Settles}
 
 abbrev pub unread_of : Blocks → List ℕ
 unread_of b = drop b.behind (vec_items b.held)
 
 abbrev pub comes : Blocks → Coming
 comes b = next_of b.header b.closed b.place (unread_of b)
+
+abbrev pub Continues : Blocks → Coming → Type 0
+Continues b x = GoesOn b.header b.place (unread_of b) x
+
+abbrev pub Settled : Blocks → Coming → Type 0
+Settled b x = Settles b.header b.closed b.place (unread_of b) x
 
 abbrev pub Fed : Blocks → List ℕ → List PlacedEntry → Type 0
 Fed b input rs = HandedOut b.header rs b.place (unread_of b) input

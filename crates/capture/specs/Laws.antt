@@ -3,15 +3,17 @@
 -- WrittenReads: a header and records, written one after another, read as themselves, in either order
 -- FramesLie: a frame handed out is a part of the capture, 16 bytes from its record's place
 -- DecidedStays: what bytes give is what they give with more behind them
+-- NumbersSpelt: what each byte of a number is worth, in either order
 -- Assumes nothing.
-use Rattle.std.specs.Prelude.{◌≡◌, ℕ, ◌+◌, List, ◌∷◌, ◌++◌, length, take, drop, Some, vec_items, Option}
+use Rattle.std.specs.Prelude.{◌≡◌, ℕ, ◌+◌, ◌*◌, ◌/◌, ◌%◌, List, [], ◌∷◌, slice_index, ◌++◌, length, take, drop, Some, Ok, vec_items, Option}
 use Rattle.capture.specs.declared.layout.Order.{Order}
 use Rattle.capture.specs.declared.layout.FileHeader.{FileHeader}
-use Rattle.capture.specs.declared.layout.Ending.{Ending}
 use Rattle.capture.specs.declared.layout.Index.{Index}
+use Rattle.capture.specs.declared.layout.Order.TheVariants.{Little, Big}
+use Rattle.capture.specs.Numbers.{word_bytes, half_bytes, word_at, half_at}
 use Rattle.capture.specs.Records.{head_size, at_hand, Stays}
 use Rattle.capture.specs.Headers.{file_head_size, header_bytes, Fit}
-use Rattle.capture.specs.Reading.{PlacedEntry, written, Follow, AllGood, Reads}
+use Rattle.capture.specs.Reading.{PlacedEntry, written, Follow, AllGood, Ending, Reads}
 use Rattle.capture.specs.Indexing.{Indexes}
 
 abbrev pub ReadsAgree : Type 0
@@ -28,7 +30,7 @@ IndexesAgree =
 abbrev pub WrittenReads : Type 0
 WrittenReads =
     (h : FileHeader) (rs : List PlacedEntry) (end : ℕ) → Fit h → AllGood rs → Follow file_head_size rs end →
-    Reads (header_bytes h ++ written h.order rs) (Some h) rs Ending.Whole
+    Reads (header_bytes h ++ written h.order rs) (Some h) rs (Ok tt)
 
 abbrev pub FramesLie : Type 0
 FramesLie =
@@ -38,3 +40,13 @@ FramesLie =
 
 abbrev pub DecidedStays : Type 0
 DecidedStays = (o : Order) (bs more : List ℕ) → Stays (at_hand o bs) (at_hand o (bs ++ more))
+
+pub record NumbersSpelt : Type 0 where
+  pub word_low : (bs : List ℕ) (i : ℕ) → word_at Little bs i ≡ slice_index bs i + slice_index bs (i + 1) * 256 + slice_index bs (i + 2) * 65536 + slice_index bs (i + 3) * 16777216
+  pub word_high : (bs : List ℕ) (i : ℕ) → word_at Big bs i ≡ slice_index bs i * 16777216 + slice_index bs (i + 1) * 65536 + slice_index bs (i + 2) * 256 + slice_index bs (i + 3)
+  pub half_low : (bs : List ℕ) (i : ℕ) → half_at Little bs i ≡ slice_index bs i + slice_index bs (i + 1) * 256
+  pub half_high : (bs : List ℕ) (i : ℕ) → half_at Big bs i ≡ slice_index bs i * 256 + slice_index bs (i + 1)
+  pub word_bytes_low : (n : ℕ) → word_bytes Little n ≡ (n % 256) ∷ (n / 256 % 256) ∷ (n / 65536 % 256) ∷ (n / 16777216 % 256) ∷ []
+  pub word_bytes_high : (n : ℕ) → word_bytes Big n ≡ (n / 16777216 % 256) ∷ (n / 65536 % 256) ∷ (n / 256 % 256) ∷ (n % 256) ∷ []
+  pub half_bytes_low : (n : ℕ) → half_bytes Little n ≡ (n % 256) ∷ (n / 256 % 256) ∷ []
+  pub half_bytes_high : (n : ℕ) → half_bytes Big n ≡ (n / 256 % 256) ∷ (n % 256) ∷ []

@@ -1,27 +1,37 @@
 -- Numbers as bytes, in either order.
--- word_bytes, half_bytes: the four or two bytes of a number
--- word_at, half_at: the number that the four or two bytes from a place on are
+-- number_bytes: the bytes of a number of some width; number_of_bytes: the number that bytes are
+-- Little: the lowest byte first; Big: the highest. Each byte is worth 256 times the next lower one.
+-- number_at: the number that the bytes from a place on are
+-- word_bytes, word_at: the same of four bytes; half_bytes, half_at: of two
 -- Bytes: each element of a list is a byte
 -- Assumes nothing.
-use Rattle.std.specs.Prelude.{ℕ, ◌+◌, ◌*◌, ◌/◌, ◌%◌, ◌<◌, List, [], ◌∷◌, slice_index}
+use Rattle.std.specs.Prelude.{ℕ, ◌<◌, List, take, drop, slice_index}
+use Rattle.std.specs.Int.{Width, w16, w32, byte_len, to_le_bytes, to_be_bytes, from_le_bytes, from_be_bytes}
 use Rattle.capture.specs.declared.layout.Order.{Order}
 use Rattle.capture.specs.declared.layout.Order.TheVariants.{Little, Big}
 
+abbrev pub number_bytes : Width → Order → ℕ → List ℕ
+number_bytes w Little n = to_le_bytes w n
+number_bytes w Big n = to_be_bytes w n
+
+abbrev pub number_of_bytes : Width → Order → List ℕ → ℕ
+number_of_bytes w Little bs = from_le_bytes w bs
+number_of_bytes w Big bs = from_be_bytes w bs
+
+abbrev pub number_at : Width → Order → List ℕ → ℕ → ℕ
+number_at w o bs i = number_of_bytes w o (take (byte_len w) (drop i bs))
+
 abbrev pub word_bytes : Order → ℕ → List ℕ
-word_bytes Little n = (n % 256) ∷ (n / 256 % 256) ∷ (n / 65536 % 256) ∷ (n / 16777216 % 256) ∷ []
-word_bytes Big n = (n / 16777216 % 256) ∷ (n / 65536 % 256) ∷ (n / 256 % 256) ∷ (n % 256) ∷ []
+word_bytes o n = number_bytes w32 o n
 
 abbrev pub half_bytes : Order → ℕ → List ℕ
-half_bytes Little n = (n % 256) ∷ (n / 256 % 256) ∷ []
-half_bytes Big n = (n / 256 % 256) ∷ (n % 256) ∷ []
+half_bytes o n = number_bytes w16 o n
 
 abbrev pub word_at : Order → List ℕ → ℕ → ℕ
-word_at Little bs i = slice_index bs i + slice_index bs (i + 1) * 256 + slice_index bs (i + 2) * 65536 + slice_index bs (i + 3) * 16777216
-word_at Big bs i = slice_index bs i * 16777216 + slice_index bs (i + 1) * 65536 + slice_index bs (i + 2) * 256 + slice_index bs (i + 3)
+word_at o bs i = number_at w32 o bs i
 
 abbrev pub half_at : Order → List ℕ → ℕ → ℕ
-half_at Little bs i = slice_index bs i + slice_index bs (i + 1) * 256
-half_at Big bs i = slice_index bs i * 256 + slice_index bs (i + 1)
+half_at o bs i = number_at w16 o bs i
 
 abbrev pub Bytes : List ℕ → Type 0
 Bytes bs = (i : ℕ) → slice_index bs i < 256

@@ -6,6 +6,7 @@
 -- written: records, written one after another; Follow: each stands where the one before it ends
 -- HandedOut: the header and the records handed out are, written one after another, the input up to what is unread
 -- GoesOn: what comes next goes on from what was handed out
+-- Ending: how a capture ends, after its last record or at a fault; ending_of: what then comes next
 -- Reads: the header, the records and the ending of a whole capture
 -- Settles: at the end or at a fault, what was handed out is all that the capture has
 -- Assumes nothing.
@@ -15,7 +16,6 @@ use Rattle.capture.specs.declared.layout.Refusal.{Refusal}
 use Rattle.capture.specs.declared.layout.Refusal.TheVariants.{ShortFile, Incomplete}
 use Rattle.capture.specs.declared.layout.FileHeader.{FileHeader}
 use Rattle.capture.specs.declared.layout.Fault.{Fault}
-use Rattle.capture.specs.declared.layout.Ending.{Ending}
 use Rattle.capture.specs.declared.layout.Next.{Next}
 use Rattle.capture.specs.declared.layout.Next.TheVariants.{Header, Handed, Wanting, Ended, Stopped}
 use Rattle.capture.specs.Records.{head_size, Entry, entry_of, Good, record_bytes, AtHand, whole, lacking, faulty, at_hand}
@@ -117,9 +117,12 @@ GoesOn h place unread x =
     (input : List ℕ) (rs : List PlacedEntry) → HandedOut h rs place unread input →
     HandedOut (header_after h x) (rs ++ records_in x) (place + takes x) (drop (takes x) unread) input
 
+abbrev pub Ending : Type 0
+Ending = Result (Unit {0}) Fault
+
 abbrev pub ending_of : Ending → Coming
-ending_of Ending.Whole = ended
-ending_of (Ending.Fault f) = stopped f
+ending_of (Ok u) = ended
+ending_of (Err f) = stopped f
 
 -- A whole capture: what is handed out, written one after another, is the capture up to a rest, and at that rest
 -- the capture has ended or is at fault.
@@ -135,8 +138,8 @@ Settles h closed place unread (header k) = Unit {0}
 Settles h closed place unread (handed r) = Unit {0}
 Settles h closed place unread (wanting n) = (length unread < n) × (closed ≡ false)
 Settles h closed place unread ended =
-    (input : List ℕ) (rs : List PlacedEntry) → HandedOut h rs place unread input → (closed ≡ true) × Reads input h rs Ending.Whole
+    (input : List ℕ) (rs : List PlacedEntry) → HandedOut h rs place unread input → (closed ≡ true) × Reads input h rs (Ok tt)
 Settles h true place unread (stopped f) =
-    (input : List ℕ) (rs : List PlacedEntry) → HandedOut h rs place unread input → Reads input h rs (Ending.Fault f)
+    (input : List ℕ) (rs : List PlacedEntry) → HandedOut h rs place unread input → Reads input h rs (Err f)
 Settles h false place unread (stopped f) =
-    (input more : List ℕ) (rs : List PlacedEntry) → HandedOut h rs place unread input → Reads (input ++ more) h rs (Ending.Fault f)
+    (input more : List ℕ) (rs : List PlacedEntry) → HandedOut h rs place unread input → Reads (input ++ more) h rs (Err f)

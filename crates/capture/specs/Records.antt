@@ -4,7 +4,8 @@
 -- check_of: what is refused of a record by its numbers
 -- Entry: a record with its frame; entry_of: a record of the program as one; Good: it is allowed
 -- head_of, record_bytes: a record's header, and the whole record, as they are written
--- AtHand: what some bytes give; entry_at: the record that they begin with; at_hand: what they give
+-- AtHand: what some bytes give; entry_at: the record that they begin with; check_at: what is refused of it by its numbers
+-- at_hand: what they give
 -- shown: an answer of the program as one
 -- ReadsAs: bytes read as a record, whatever follows
 -- Stays: what bytes give is what they still give with more behind them
@@ -18,8 +19,7 @@ use Rattle.capture.specs.declared.layout.Refusal.TheVariants.{BadFraction, BadLe
 use Rattle.capture.specs.declared.layout.WriteError.{WriteError}
 use Rattle.capture.specs.declared.layout.WriteError.TheVariants.{Refused, NoMemory}
 use Rattle.capture.specs.declared.layout.Record.{Record}
-use Rattle.capture.specs.declared.layout.Found.{Found}
-use Rattle.capture.specs.declared.layout.Found.TheVariants.{Whole, Wanting, Faulty}
+use Rattle.capture.specs.declared.layout.NoRecord.{NoRecord}
 use Rattle.capture.specs.Numbers.{word_bytes, word_at}
 
 abbrev pub most_fraction : ℕ
@@ -98,6 +98,9 @@ entry_at o bs =
       frame = take (word_at o bs 8) (drop head_size bs);
     }
 
+abbrev pub check_at : Order → List ℕ → Result (Unit {0}) Refusal
+check_at o bs = check_of (word_at o bs 4) (word_at o bs 8) (word_at o bs 12)
+
 -- once the numbers pass, the frame is wanted whole
 abbrev pub framed : Result (Unit {0}) Refusal → Order → List ℕ → AtHand
 framed (Ok u) o bs = cond (nat_lt (length bs) (head_size + word_at o bs 8)) (lacking (head_size + word_at o bs 8)) (whole (entry_at o bs))
@@ -107,12 +110,12 @@ framed (Err f) o bs = faulty f
 abbrev pub at_hand : Order → List ℕ → AtHand
 at_hand o bs =
     cond (nat_lt (length bs) head_size) (lacking head_size)
-    (framed (check_of (word_at o bs 4) (word_at o bs 8) (word_at o bs 12)) o bs)
+    (framed (check_at o bs) o bs)
 
-abbrev pub shown : Found → AtHand
-shown (Whole r) = whole (entry_of r)
-shown (Wanting n) = lacking n
-shown (Faulty f) = faulty f
+abbrev pub shown : Result Record NoRecord → AtHand
+shown (Ok r) = whole (entry_of r)
+shown (Err (NoRecord.Wanting n)) = lacking n
+shown (Err (NoRecord.Refused f)) = faulty f
 
 abbrev pub Fronts : Order → List ℕ → AtHand → Type 0
 Fronts o bs (whole e) = Good e × (bs ≡ record_bytes o e ++ drop (head_size + length e.frame) bs)

@@ -8,7 +8,8 @@ use std::alloc::Global;
 #[derive(Drop)]
 pub struct Blocks {
     pub(crate) heap: Global,
-    // the bytes at hand, of which the first `behind` are passed
+    // The bytes at hand, of which the first `behind` are passed. To drain each record off the front was tried, and took
+    // over ten times as long: it moves all the bytes behind it. `feed` leaves the passed ones out.
     pub(crate) held: Vec<u8>,
     pub(crate) behind: usize,
     // the place in the capture of the first byte that is not passed

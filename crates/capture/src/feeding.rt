@@ -1,12 +1,13 @@
 // A capture's bytes come in, and its header and records are handed out.
-ghost use Rattle.std.specs.Prelude.{◌≡◌, ◌+◌, ◌≤◌, ◌++◌, length, IfOk, vec_len, MatchResult};
+ghost use Rattle.std.specs.Prelude.{◌≡◌, ◌+◌, ◌≤◌, length, vec_len, MatchResult};
 ghost use Rattle.capture.specs.declared.layout.FeedError.TheVariants.{NoMemory};
-ghost use Rattle.capture.specs.Reading.{shown_next, takes, GoesOn, Settles};
-ghost use Rattle.capture.specs.Feeding.{unread_of, comes, Fresh, Moved, Shut, Grown, NotTaken};
+ghost use Rattle.capture.specs.Reading.{shown_next, takes};
+ghost use Rattle.capture.specs.Feeding.{unread_of, comes, Continues, Settled, Fresh, Moved, Shut, Grown, NotTaken};
 
 use crate::blocks::Blocks;
 use crate::layout::{FeedError, Next};
 use crate::nexts::next_of;
+use crate::records::append_both;
 use std::alloc::{AllocError, Global};
 
 impl From<AllocError> for FeedError {
@@ -15,16 +16,6 @@ impl From<AllocError> for FeedError {
     fn from(_error: AllocError) -> FeedError {
         FeedError::NoMemory
     }
-}
-
-// One list of bytes behind another.
-fn joined(heap: Global, front: &[u8], back: &[u8]) -> Result<Vec<u8>, AllocError>
-    ensures made { IfOk result (λ v. v.items ≡ front.now ++ back.now) }
-{
-    let mut all = Vec::with_capacity(heap, front.len().saturating_add(back.len()))?;
-    all.extend_from_slice(front)?;
-    all.extend_from_slice(back)?;
-    Ok(all)
 }
 
 impl Blocks {
@@ -58,11 +49,14 @@ impl Blocks {
             return Err(FeedError::Closed);
         }
         let unread = self.unread();
+        // `as`: no `From` makes 64 bits of a usize
         let end = self.place + unread.len() as u64;
         if block.len() as u64 > u64::MAX - end {
             return Err(FeedError::TooLong);
         }
-        let held = joined(self.heap, unread, block)?;
+        // A new list, so that a refusal leaves the one at hand as it was.
+        let mut held = Vec::new(self.heap);
+        append_both(&mut held, unread, block)?;
         self.held = held;
         self.behind = 0;
         Ok(())
@@ -79,8 +73,8 @@ impl Blocks {
     pub fn look(&self) -> Next<'_>
         ensures value { shown_next result ≡ comes self.now }
         ensures bound { takes (shown_next result) ≤ length (unread_of self.now) }
-        ensures goes_on { GoesOn self.now.header self.now.place (unread_of self.now) (shown_next result) }
-        ensures settles { Settles self.now.header self.now.closed self.now.place (unread_of self.now) (shown_next result) }
+        ensures goes_on { Continues self.now (shown_next result) }
+        ensures settles { Settled self.now (shown_next result) }
     {
         next_of(self.header, self.closed, self.place, self.unread())
     }

@@ -1,6 +1,6 @@
 // A file's header: read, and written as it came.
-ghost use Rattle.std.specs.Prelude.{◌≡◌};
-ghost use Rattle.capture.specs.Headers.{header_of, header_bytes, HeaderFronts, HeaderReadsAs};
+ghost use Rattle.std.specs.Prelude.{◌≡◌, ◌≤◌, length};
+ghost use Rattle.capture.specs.Headers.{order_of, header_of, header_bytes, HeaderFronts, HeaderReadsAs};
 
 use crate::layout::{FileHeader, Order, Refusal};
 
@@ -17,6 +17,16 @@ const ETHERNET: u32 = 1;
 // The bytes of a file's header.
 pub const FILE_HEAD_SIZE: usize = 24;
 
+// The order in which bytes begin with the magic number.
+fn order_of(bytes: &[u8]) -> Option<Order>
+    requires { 4 ≤ length bytes.now }
+    ensures value { result ≡ order_of bytes.now }
+{
+    [Order::Little, Order::Big]
+        .into_iter()
+        .find(|order| order.number::<u32, 4>(bytes, 0) == MAGIC)
+}
+
 impl FileHeader {
     // The header that a file begins with.
     pub fn read(bytes: &[u8]) -> Result<FileHeader, Refusal>
@@ -26,24 +36,21 @@ impl FileHeader {
         if bytes.len() < FILE_HEAD_SIZE {
             return Err(Refusal::ShortFile);
         }
-        let order = if Order::Little.word(bytes, 0) == MAGIC {
-            Order::Little
-        } else if Order::Big.word(bytes, 0) == MAGIC {
-            Order::Big
-        } else {
-            return Err(Refusal::BadMagic);
-        };
-        if order.half(bytes, 4) != MAJOR_VERSION || order.half(bytes, 6) != MINOR_VERSION {
+        let order = order_of(bytes).ok_or(Refusal::BadMagic)?;
+        let major: u16 = order.number(bytes, 4);
+        let minor: u16 = order.number(bytes, 6);
+        if major != MAJOR_VERSION || minor != MINOR_VERSION {
             return Err(Refusal::BadVersion);
         }
-        if order.word(bytes, 20) != ETHERNET {
+        let link: u32 = order.number(bytes, 20);
+        if link != ETHERNET {
             return Err(Refusal::BadLink);
         }
         Ok(FileHeader {
             order,
-            zone: order.word(bytes, 8),
-            accuracy: order.word(bytes, 12),
-            snap_length: order.word(bytes, 16),
+            zone: order.number(bytes, 8),
+            accuracy: order.number(bytes, 12),
+            snap_length: order.number(bytes, 16),
         })
     }
 
@@ -53,16 +60,14 @@ impl FileHeader {
         ensures again { HeaderReadsAs result self.now }
     {
         let order = self.order;
-        let [m0, m1, m2, m3] = order.word_bytes(MAGIC);
-        let [a0, a1] = order.half_bytes(MAJOR_VERSION);
-        let [b0, b1] = order.half_bytes(MINOR_VERSION);
-        let [z0, z1, z2, z3] = order.word_bytes(self.zone);
-        let [c0, c1, c2, c3] = order.word_bytes(self.accuracy);
-        let [s0, s1, s2, s3] = order.word_bytes(self.snap_length);
-        let [l0, l1, l2, l3] = order.word_bytes(ETHERNET);
-        [
-            m0, m1, m2, m3, a0, a1, b0, b1, z0, z1, z2, z3, c0, c1, c2, c3, s0, s1, s2, s3, l0, l1,
-            l2, l3,
-        ]
+        let mut bytes = [0; FILE_HEAD_SIZE];
+        order.put(MAGIC, &mut bytes, 0);
+        order.put(MAJOR_VERSION, &mut bytes, 4);
+        order.put(MINOR_VERSION, &mut bytes, 6);
+        order.put(self.zone, &mut bytes, 8);
+        order.put(self.accuracy, &mut bytes, 12);
+        order.put(self.snap_length, &mut bytes, 16);
+        order.put(ETHERNET, &mut bytes, 20);
+        bytes
     }
 }

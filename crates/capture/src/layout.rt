@@ -39,7 +39,7 @@ pub struct FileHeader {
 }
 
 // A packet as it was captured. Its captured length is the frame's.
-#[derive(Clone, Copy)]
+#[derive(Clone, Copy, PartialEq, Eq, Debug)]
 pub struct Record<'a> {
     pub seconds: u32,
     pub microseconds: u32,
@@ -47,19 +47,17 @@ pub struct Record<'a> {
     pub frame: &'a [u8],
 }
 
-// What the bytes at hand give.
-#[derive(Clone, Copy)]
-pub enum Found<'a> {
-    // the record that they begin with
-    Whole(Record<'a>),
-    // nothing, until there are at least so many
+// Why the bytes at hand give no record.
+#[derive(Clone, Copy, PartialEq, Eq, Debug)]
+pub enum NoRecord {
+    // at least so many bytes are wanted
     Wanting(usize),
     // the record that they begin with is refused
-    Faulty(Refusal),
+    Refused(Refusal),
 }
 
 // A record and the place of its first byte in the capture. Its frame begins 16 bytes on.
-#[derive(Clone, Copy)]
+#[derive(Clone, Copy, PartialEq, Eq, Debug)]
 pub struct Placed<'a> {
     pub place: u64,
     pub record: Record<'a>,
@@ -73,7 +71,7 @@ pub struct Fault {
 }
 
 // What comes next in a capture.
-#[derive(Clone, Copy)]
+#[derive(Clone, Copy, PartialEq, Eq, Debug)]
 pub enum Next<'a> {
     // the file's header, which comes first
     Header(FileHeader),
@@ -88,14 +86,10 @@ pub enum Next<'a> {
 }
 
 // How a capture ends: after its last record, or at a fault.
-#[derive(Clone, Copy, PartialEq, Eq, Debug)]
-pub enum Ending {
-    Whole,
-    Fault(Fault),
-}
+pub type Ending = Result<(), Fault>;
 
 // Why bytes could not be taken in. The capture itself is not at fault.
-#[derive(Clone, Copy, Debug)]
+#[derive(Clone, Copy, PartialEq, Eq, Debug)]
 pub enum FeedError {
     // the input was closed before
     Closed,
@@ -106,7 +100,7 @@ pub enum FeedError {
 }
 
 // A record's place in the capture, and its numbers.
-#[derive(Clone, Copy)]
+#[derive(Clone, Copy, PartialEq, Eq, Debug)]
 pub struct IndexEntry {
     pub place: u64,
     pub seconds: u32,
@@ -116,7 +110,7 @@ pub struct IndexEntry {
 }
 
 // Where each record of a capture stands, and how the capture ends.
-#[derive(Drop)]
+#[derive(PartialEq, Eq, Debug, Drop)]
 pub struct Index {
     pub header: Option<FileHeader>,
     pub entries: Vec<IndexEntry>,
@@ -124,7 +118,7 @@ pub struct Index {
 }
 
 // Why a record was not written.
-#[derive(Clone, Copy, Debug)]
+#[derive(Clone, Copy, PartialEq, Eq, Debug)]
 pub enum WriteError {
     // it could not be read again
     Refused(Refusal),

@@ -3,11 +3,11 @@ ghost use Rattle.std.specs.Prelude.{◌≡◌, ◌^◌, ◌<◌, ◌≤◌, leng
 ghost use Rattle.capture.specs.Reading.{shown_next, next_of, takes, header_after, GoesOn, Settles};
 
 use crate::headers::FILE_HEAD_SIZE;
-use crate::layout::{Fault, FileHeader, Found, Next, Order, Placed, Record, Refusal};
+use crate::layout::{Fault, FileHeader, Next, NoRecord, Placed, Record, Refusal};
 use crate::records::HEAD_SIZE;
 
 // The file's header.
-fn opening<'a>(closed: bool, unread: &'a [u8]) -> Next<'a>
+fn opening(closed: bool, unread: &[u8]) -> Next<'_>
     ensures value { shown_next result ≡ next_of None closed 0 unread.now }
     ensures bound { takes (shown_next result) ≤ length unread.now }
 {
@@ -21,16 +21,16 @@ fn opening<'a>(closed: bool, unread: &'a [u8]) -> Next<'a>
 }
 
 // A record, once the header has told the order.
-fn following<'a>(header: FileHeader, closed: bool, place: u64, unread: &'a [u8]) -> Next<'a>
+fn following(header: FileHeader, closed: bool, place: u64, unread: &[u8]) -> Next<'_>
     ensures value { shown_next result ≡ next_of (Some header) closed place unread.now }
     ensures bound { takes (shown_next result) ≤ length unread.now }
 {
     match Record::first(header.order, unread) {
-        Found::Whole(record) => Next::Handed(Placed { place, record }),
-        Found::Faulty(refusal) => Next::Stopped(Fault { refusal, place }),
-        Found::Wanting(least) if !closed => Next::Wanting(least),
-        Found::Wanting(_) if unread.is_empty() => Next::Ended,
-        Found::Wanting(_) => Next::Stopped(Fault {
+        Ok(record) => Next::Handed(Placed { place, record }),
+        Err(NoRecord::Refused(refusal)) => Next::Stopped(Fault { refusal, place }),
+        Err(NoRecord::Wanting(least)) if !closed => Next::Wanting(least),
+        Err(NoRecord::Wanting(_)) if unread.is_empty() => Next::Ended,
+        Err(NoRecord::Wanting(_)) => Next::Stopped(Fault {
             refusal: Refusal::Incomplete,
             place,
         }),
@@ -38,12 +38,8 @@ fn following<'a>(header: FileHeader, closed: bool, place: u64, unread: &'a [u8])
 }
 
 // What comes next, by the header so far, whether more bytes may come, and the bytes at hand with their place.
-pub fn next_of<'a>(
-    header: Option<FileHeader>,
-    closed: bool,
-    place: u64,
-    unread: &'a [u8],
-) -> Next<'a>
+// Four values and no struct of them, which `Blocks::look` would make for this one call.
+pub fn next_of(header: Option<FileHeader>, closed: bool, place: u64, unread: &[u8]) -> Next<'_>
     ensures value { shown_next result ≡ next_of header closed place unread.now }
     ensures bound { takes (shown_next result) ≤ length unread.now }
     ensures goes_on { GoesOn header place unread.now (shown_next result) }
@@ -56,7 +52,7 @@ pub fn next_of<'a>(
 }
 
 impl Next<'_> {
-    // How many bytes the header or the record takes.
+    // How many bytes the header or the record takes. A `match` with a default is the plain form.
     pub(crate) fn takes(&self) -> usize
         requires { takes (shown_next self.now) < 2 ^ 64 }
         ensures value { result ≡ takes (shown_next self.now) }
@@ -68,7 +64,7 @@ impl Next<'_> {
         }
     }
 
-    // The header that is known after this.
+    // The header that is known after this. `header().or(known)` would need the same `match` in a method more.
     pub(crate) fn header_after(&self, known: Option<FileHeader>) -> Option<FileHeader>
         ensures value { result ≡ header_after known (shown_next self.now) }
     {

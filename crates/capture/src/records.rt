@@ -1,8 +1,11 @@
 // One record: its moment, what is refused of it, and its bytes.
-ghost use Rattle.std.specs.Prelude.{◌≡◌, [], ◌++◌, length, IfOk, if◌then◌else◌, MatchResult, OnOk};
+ghost use Rattle.std.specs.Prelude.{◌≡◌, [], ◌++◌, length, is_ok, IfOk, if◌then◌else◌, MatchResult, OnOk};
+ghost use Rattle.capture.specs.declared.layout.NoRecord.{NoRecord};
+ghost use Rattle.capture.specs.declared.layout.WriteError.{WriteError};
 ghost use Rattle.capture.specs.Records.{moment_of, check_of, entry_of, Good, head_written, record_bytes, at_hand, shown, Fronts, ReadsAs, NotWritten};
 
-use crate::layout::{Found, Order, Record, Refusal, WriteError};
+use crate::layout::{NoRecord, Order, Record, Refusal, WriteError};
+use std::alloc::AllocError;
 
 // The largest fraction of a second, in microseconds.
 const MOST_FRACTION: u32 = 999_999;
@@ -34,26 +37,37 @@ pub fn check_numbers(microseconds: u32, captured: usize, original: u32) -> Resul
     Ok(())
 }
 
-// Adds bytes at the end; false, with nothing added, where there is no memory.
-fn append(out: &mut Vec<u8>, bytes: &[u8]) -> bool
-    ensures items { out.new.items ≡ out.old.items ++ (if result then bytes.now else []) }
-{
-    out.extend_from_slice(bytes).is_ok()
+impl From<Refusal> for NoRecord {
+    ghost from_gives = { λ refusal e. e ≡ NoRecord.Refused refusal };
+
+    fn from(refusal: Refusal) -> NoRecord {
+        NoRecord::Refused(refusal)
+    }
 }
 
-// Adds two parts at the end; false, with nothing added, where there is no memory for both.
-fn append_both(out: &mut Vec<u8>, front: &[u8], back: &[u8]) -> bool
-    ensures items { out.new.items ≡ out.old.items ++ (if result then front.now ++ back.now else []) }
+impl From<Refusal> for WriteError {
+    ghost from_gives = { λ refusal e. e ≡ WriteError.Refused refusal };
+
+    fn from(refusal: Refusal) -> WriteError {
+        WriteError::Refused(refusal)
+    }
+}
+
+impl From<AllocError> for WriteError {
+    ghost from_gives = { λ _ e. e ≡ WriteError.NoMemory };
+
+    fn from(_error: AllocError) -> WriteError {
+        WriteError::NoMemory
+    }
+}
+
+// Adds two parts at the end, or nothing where there is no memory for both.
+pub(crate) fn append_both(out: &mut Vec<u8>, front: &[u8], back: &[u8]) -> Result<(), AllocError>
+    ensures items { out.new.items ≡ out.old.items ++ (if is_ok result then front.now ++ back.now else []) }
 {
-    let before = out.len();
-    if !append(out, front) {
-        return false;
-    }
-    if !append(out, back) {
-        out.truncate(before);
-        return false;
-    }
-    true
+    out.reserve(front.len().saturating_add(back.len()))?;
+    out.extend_from_slice(front)?;
+    out.extend_from_slice(back)
 }
 
 impl<'a> Record<'a> {
@@ -61,7 +75,7 @@ impl<'a> Record<'a> {
     pub fn moment(&self) -> u64
         ensures value { result ≡ moment_of self.now.seconds self.now.microseconds }
     {
-        self.seconds as u64 * PER_SECOND + self.microseconds as u64
+        u64::from(self.seconds) * PER_SECOND + u64::from(self.microseconds)
     }
 
     // What is refused of the record.
@@ -72,30 +86,27 @@ impl<'a> Record<'a> {
     }
 
     // The record that some bytes begin with. Its frame is a part of them.
-    pub fn first(order: Order, bytes: &'a [u8]) -> Found<'a>
+    pub fn first(order: Order, bytes: &'a [u8]) -> Result<Record<'a>, NoRecord>
         ensures value { shown result ≡ at_hand order bytes.now }
         ensures fronts { Fronts order bytes.now (shown result) }
     {
         if bytes.len() < HEAD_SIZE {
-            return Found::Wanting(HEAD_SIZE);
+            return Err(NoRecord::Wanting(HEAD_SIZE));
         }
-        let microseconds = order.word(bytes, 4);
-        let captured = order.word(bytes, 8) as usize;
-        let original = order.word(bytes, 12);
-        if let Err(refusal) = check_numbers(microseconds, captured, original) {
-            return Found::Faulty(refusal);
-        }
-        let end = HEAD_SIZE + captured;
+        let microseconds = order.number(bytes, 4);
+        // `as`: no `From` makes a usize of 32 bits
+        let captured: u32 = order.number(bytes, 8);
+        let original = order.number(bytes, 12);
+        check_numbers(microseconds, captured as usize, original)?;
+        let end = HEAD_SIZE + captured as usize;
         if bytes.len() < end {
-            return Found::Wanting(end);
+            return Err(NoRecord::Wanting(end));
         }
-        let seconds = order.word(bytes, 0);
-        let frame = &bytes[HEAD_SIZE..end];
-        Found::Whole(Record {
-            seconds,
+        Ok(Record {
+            seconds: order.number(bytes, 0),
             microseconds,
             original,
-            frame,
+            frame: &bytes[HEAD_SIZE..end],
         })
     }
 
@@ -106,13 +117,13 @@ impl<'a> Record<'a> {
         ensures again { IfOk result (λ h. ReadsAs order (h ++ self.now.frame.now) (entry_of self.now)) }
     {
         self.check()?;
-        let [s0, s1, s2, s3] = order.word_bytes(self.seconds);
-        let [m0, m1, m2, m3] = order.word_bytes(self.microseconds);
-        let [c0, c1, c2, c3] = order.word_bytes(self.frame.len() as u32);
-        let [l0, l1, l2, l3] = order.word_bytes(self.original);
-        Ok([
-            s0, s1, s2, s3, m0, m1, m2, m3, c0, c1, c2, c3, l0, l1, l2, l3,
-        ])
+        let mut bytes = [0; HEAD_SIZE];
+        order.put(self.seconds, &mut bytes, 0);
+        order.put(self.microseconds, &mut bytes, 4);
+        // the check has passed: at most 16,384
+        order.put(self.frame.len() as u32, &mut bytes, 8);
+        order.put(self.original, &mut bytes, 12);
+        Ok(bytes)
     }
 
     // Writes the record behind what `out` has: its header, then its frame. Where that fails, `out` is as it was.
@@ -120,14 +131,8 @@ impl<'a> Record<'a> {
         ensures cases { MatchResult result (λ _. out.new.items ≡ out.old.items ++ record_bytes order (entry_of self.now)) (λ e. (out.new.items ≡ out.old.items) × NotWritten (entry_of self.now) e) }
         ensures again { OnOk result (ReadsAs order (record_bytes order (entry_of self.now)) (entry_of self.now)) }
     {
-        let head = match self.head(order) {
-            Ok(head) => head,
-            Err(refusal) => return Err(WriteError::Refused(refusal)),
-        };
-        if append_both(out, &head, self.frame) {
-            Ok(())
-        } else {
-            Err(WriteError::NoMemory)
-        }
+        let head = self.head(order)?;
+        append_both(out, &head, self.frame)?;
+        Ok(())
     }
 }

@@ -1,6 +1,8 @@
 // Captures worked out by hand, read whole, cut and in blocks.
 #![tactic(auto)]
 
+ghost use Rattle.std.specs.Prelude.{◌<◌};
+
 #[cfg(test)]
 mod tests {
     use capture::blocks::Blocks;
@@ -29,28 +31,28 @@ mod tests {
         match n {
             0..=23 => (
                 0,
-                Ending::Fault(Fault {
+                Err(Fault {
                     refusal: Refusal::ShortFile,
                     place: 0,
                 }),
             ),
-            24 => (24, Ending::Whole),
+            24 => (24, Ok(())),
             25..=42 => (
                 24,
-                Ending::Fault(Fault {
+                Err(Fault {
                     refusal: Refusal::Incomplete,
                     place: 24,
                 }),
             ),
-            43 => (43, Ending::Whole),
+            43 => (43, Ok(())),
             44..=60 => (
                 43,
-                Ending::Fault(Fault {
+                Err(Fault {
                     refusal: Refusal::Incomplete,
                     place: 43,
                 }),
             ),
-            _ => (61, Ending::Whole),
+            _ => (61, Ok(())),
         }
     }
 
@@ -60,6 +62,7 @@ mod tests {
         order: &mut Order,
         out: &mut Vec<u8>,
     ) -> Result<Option<Ending>, Fail> {
+        // A bound, so that it ends: no capture here has as many records.
         for _ in 0..1000 {
             match capture.look() {
                 Next::Header(header) => {
@@ -68,8 +71,8 @@ mod tests {
                 }
                 Next::Handed(placed) => placed.record.write(*order, out)?,
                 Next::Wanting(_) => return Ok(None),
-                Next::Ended => return Ok(Some(Ending::Whole)),
-                Next::Stopped(fault) => return Ok(Some(Ending::Fault(fault))),
+                Next::Ended => return Ok(Some(Ok(()))),
+                Next::Stopped(fault) => return Ok(Some(Err(fault))),
             }
             capture.advance();
         }
@@ -77,30 +80,22 @@ mod tests {
     }
 
     // Reads in blocks of `size` bytes, writes what is read, and compares it with what was worked out.
-    fn same_in_blocks(
-        rt: &impl Abort,
-        heap: Global,
-        bytes: &[u8],
-        size: usize,
-    ) -> Result<(), Fail> {
+    fn same_in_blocks(rt: &impl Abort, heap: Global, bytes: &[u8], size: usize) -> Result<(), Fail>
+        requires { 0 < size }
+    {
         let mut capture = Blocks::new(heap);
         let mut order = Order::Little;
         let mut out = Vec::new(heap);
-        let mut at: usize = 0;
-        for _ in 0..bytes.len() {
-            let end = bytes.len().min(at.saturating_add(size));
-            if at < end {
-                capture.feed(&bytes[at..end])?;
-                assert_eq!(rt; copy_at_hand(&mut capture, &mut order, &mut out)?, None);
-                at = end;
-            }
+        for block in bytes.chunks(size) {
+            capture.feed(block)?;
+            assert_eq!(rt; copy_at_hand(&mut capture, &mut order, &mut out)?, None);
         }
         capture.close();
         let ending = copy_at_hand(&mut capture, &mut order, &mut out)?;
         let (length, expected) = by_hand(bytes.len());
         assert_eq!(rt; ending, Some(expected));
         assert!(rt; length <= bytes.len());
-        assert!(rt; out.as_slice() == &bytes[0..length]);
+        assert_eq!(rt; out.as_slice(), &bytes[..length]);
         Ok(())
     }
 
@@ -108,8 +103,8 @@ mod tests {
     fn every_cut_in_blocks(rt: HostRuntime) -> Result<(), Fail> {
         for n in 0..62 {
             for size in [1, 7, 64] {
-                same_in_blocks(&rt, rt.alloc(), &LITTLE[0..n], size)?;
-                same_in_blocks(&rt, rt.alloc(), &BIG[0..n], size)?;
+                same_in_blocks(&rt, rt.alloc(), &LITTLE[..n], size)?;
+                same_in_blocks(&rt, rt.alloc(), &BIG[..n], size)?;
             }
         }
         Ok(())
@@ -118,8 +113,8 @@ mod tests {
     // How the little-endian capture ends with one byte changed.
     fn ending_with(heap: Global, at: usize, value: u8) -> Result<Ending, Fail> {
         let mut bytes = LITTLE;
-        if at < 61 {
-            bytes[at] = value;
+        if let Some(byte) = bytes.get_mut(at) {
+            *byte = value;
         }
         let whole: &[u8] = &bytes;
         Ok(index_blocks(heap, &[whole])?.ending)
@@ -145,12 +140,12 @@ mod tests {
         for (at, value, refusal, place) in faults {
             assert_eq!(rt;
                 ending_with(rt.alloc(), at, value)?,
-                Ending::Fault(Fault { refusal, place })
+                Err(Fault { refusal, place })
             );
         }
         // the least original length, zone, accuracy and snap length
         for (at, value) in [(36, 3), (8, 9), (12, 9), (16, 0)] {
-            assert_eq!(rt; ending_with(rt.alloc(), at, value)?, Ending::Whole);
+            assert_eq!(rt; ending_with(rt.alloc(), at, value)?, Ok(()));
         }
         Ok(())
     }
@@ -183,7 +178,7 @@ mod tests {
                 ..header
             })
         );
-        assert_eq!(rt; FileHeader::read(&LITTLE[0..23]), Err(Refusal::ShortFile));
+        assert_eq!(rt; FileHeader::read(&LITTLE[..23]), Err(Refusal::ShortFile));
         let last = Record {
             seconds: 4_294_967_295,
             microseconds: 999_999,

@@ -2,26 +2,23 @@
 use kinds::profiles::{AnyMeter, Fault, Level, Profile, TokenBucket};
 use meter::alone::colour_packet;
 use meter::measures::PacketColour::{Green, Red, Yellow};
-use meter::measures::{Arrival, Colour, Grains, Moment, PacketColour, Refusal, Size};
+use meter::measures::{Arrival, Colour, Grains, Load, Mode, Moment, PacketColour, Refusal, Size};
 use meter::metering::Meter;
 use std::process::Abort;
 use std::test::Fail;
 
 // Moment, size, arrival colour, and the colour that it should get.
-#[derive(Clone, Copy)]
-struct Step(u64, u32, PacketColour, PacketColour);
+type Step = (u64, u32, PacketColour, PacketColour);
 
 fn follow(rt: &impl Abort, profile: Profile, steps: &[Step]) -> Result<(), Fail> {
-    let Ok(mut meter) = AnyMeter::new(profile) else {
-        return Err(Fail::new("not made"));
-    };
-    for step in steps {
+    let mut meter = AnyMeter::new(profile).map_err(|_| Fail::new("not made"))?;
+    for &(moment, size, colour, expected) in steps {
         let arrival = Arrival {
-            moment: Moment(step.0),
-            size: Size(step.1),
-            colour: step.2,
+            moment: Moment(moment),
+            size: Size(size),
+            colour,
         };
-        assert_eq!(rt; colour_packet(&mut meter, arrival), Ok(step.3));
+        assert_eq!(rt; colour_packet(&mut meter, arrival), Ok(expected));
     }
     Ok(())
 }
@@ -30,18 +27,18 @@ fn follow(rt: &impl Abort, profile: Profile, steps: &[Step]) -> Result<(), Fail>
 #[test]
 fn single_rate(rt: HostRuntime) -> Result<(), Fail> {
     let steps = [
-        Step(0, 300, Green, Green),
-        Step(0, 200, Green, Yellow),
-        Step(100_000, 200, Green, Red),
-        Step(1_000_000, 350, Green, Green),
-        Step(1_000_000, 50, Green, Green),
-        Step(1_000_000, 1, Green, Yellow),
-        Step(1_000_000, 299, Yellow, Yellow),
-        Step(1_000_000, 1, Green, Red),
-        Step(3_000_000, 1, Red, Red),
-        Step(3_000_000, 300, Yellow, Yellow),
-        Step(3_000_000, 400, Green, Green),
-        Step(3_000_000, 1, Yellow, Red),
+        (0, 300, Green, Green),
+        (0, 200, Green, Yellow),
+        (100_000, 200, Green, Red),
+        (1_000_000, 350, Green, Green),
+        (1_000_000, 50, Green, Green),
+        (1_000_000, 1, Green, Yellow),
+        (1_000_000, 299, Yellow, Yellow),
+        (1_000_000, 1, Green, Red),
+        (3_000_000, 1, Red, Red),
+        (3_000_000, 300, Yellow, Yellow),
+        (3_000_000, 400, Green, Green),
+        (3_000_000, 1, Yellow, Red),
     ];
     follow(
         &rt,
@@ -58,16 +55,16 @@ fn single_rate(rt: HostRuntime) -> Result<(), Fail> {
 #[test]
 fn two_rates(rt: HostRuntime) -> Result<(), Fail> {
     let steps = [
-        Step(0, 500, Green, Green),
-        Step(0, 300, Green, Yellow),
-        Step(0, 1, Green, Red),
-        Step(100_000, 101, Green, Yellow),
-        Step(100_000, 99, Green, Green),
-        Step(100_000, 1, Green, Red),
-        Step(600_000, 1, Red, Red),
-        Step(600_000, 500, Yellow, Yellow),
-        Step(600_000, 300, Green, Green),
-        Step(600_000, 1, Green, Red),
+        (0, 500, Green, Green),
+        (0, 300, Green, Yellow),
+        (0, 1, Green, Red),
+        (100_000, 101, Green, Yellow),
+        (100_000, 99, Green, Green),
+        (100_000, 1, Green, Red),
+        (600_000, 1, Red, Red),
+        (600_000, 500, Yellow, Yellow),
+        (600_000, 300, Green, Green),
+        (600_000, 1, Green, Red),
     ];
     follow(
         &rt,
@@ -85,16 +82,16 @@ fn two_rates(rt: HostRuntime) -> Result<(), Fail> {
 #[test]
 fn both_forms_of_gcra(rt: HostRuntime) -> Result<(), Fail> {
     let steps = [
-        Step(0, 1, Green, Green),
-        Step(0, 1, Green, Red),
-        Step(4, 1, Green, Red),
-        Step(5, 65_535, Yellow, Yellow),
-        Step(14, 1, Green, Red),
-        Step(15, 1, Green, Green),
-        Step(100, 1, Red, Red),
-        Step(100, 1, Green, Green),
-        Step(104, 1, Green, Red),
-        Step(105, 1, Green, Green),
+        (0, 1, Green, Green),
+        (0, 1, Green, Red),
+        (4, 1, Green, Red),
+        (5, 65_535, Yellow, Yellow),
+        (14, 1, Green, Red),
+        (15, 1, Green, Green),
+        (100, 1, Red, Red),
+        (100, 1, Green, Green),
+        (104, 1, Green, Red),
+        (105, 1, Green, Green),
     ];
     follow(
         &rt,
@@ -115,10 +112,7 @@ fn both_forms_of_gcra(rt: HostRuntime) -> Result<(), Fail> {
 }
 
 fn fault(profile: Profile) -> Option<Fault> {
-    match AnyMeter::new(profile) {
-        Ok(_) => None,
-        Err(fault) => Some(fault),
-    }
+    AnyMeter::new(profile).err()
 }
 
 fn two_rate(cir: u64, cbs: u64, pir: u64, pbs: u64) -> Option<Fault> {
@@ -151,6 +145,20 @@ fn ranges(rt: HostRuntime) {
     );
 }
 
+#[test]
+fn modes(rt: HostRuntime) {
+    assert_eq!(rt; Mode::Blind.sees(Red), Green);
+    assert_eq!(rt; Mode::Aware.sees(Red), Red);
+    assert_eq!(rt; Mode::Aware.sees(Yellow), Yellow);
+}
+
+fn load(size: u32, moment: u64) -> Load {
+    Load {
+        size: Size(size),
+        moment: Moment(moment),
+    }
+}
+
 // Whatever numbers a table holds: a fill above the depth stands for the depth, a rate of 0 for 1.
 #[test]
 fn plain_numbers(rt: HostRuntime) {
@@ -163,13 +171,10 @@ fn plain_numbers(rt: HostRuntime) {
         },
     };
     assert_eq!(rt;
-        meter.charge(Size(1), Moment(1_000_004), Colour::Green),
+        meter.charge(load(1, 1_000_004), Colour::Green),
         Err(Refusal::Unfit)
     );
-    assert_eq!(rt;
-        meter.charge(Size(1), Moment(1_000_005), Colour::Green),
-        Ok(())
-    );
+    assert_eq!(rt; meter.charge(load(1, 1_000_005), Colour::Green), Ok(()));
 }
 
 #[test]
@@ -182,20 +187,17 @@ fn refused_sizes_and_moments(rt: HostRuntime) {
             last: Moment(7),
         },
     };
-    let last = Moment(4_294_967_295_999_999);
-    let past = Moment(4_294_967_296_000_000);
+    let last = 4_294_967_295_999_999;
+    let past = 4_294_967_296_000_000;
     let green = Colour::Green;
-    assert_eq!(rt; meter.charge(Size(0), past, green), Err(Refusal::BadSize));
+    assert_eq!(rt; meter.charge(load(0, past), green), Err(Refusal::BadSize));
     assert_eq!(rt;
-        meter.charge(Size(65_536), last, green),
+        meter.charge(load(65_536, last), green),
         Err(Refusal::BadSize)
     );
-    assert_eq!(rt; meter.charge(Size(1), past, green), Err(Refusal::BadMoment));
-    assert_eq!(rt;
-        meter.charge(Size(1), Moment(6), green),
-        Err(Refusal::Backward)
-    );
-    assert_eq!(rt; meter.charge(Size(1), Moment(7), green), Ok(()));
-    assert_eq!(rt; meter.charge(Size(65_535), last, green), Ok(()));
-    assert_eq!(rt; meter.charge(Size(1), last, green), Ok(()));
+    assert_eq!(rt; meter.charge(load(1, past), green), Err(Refusal::BadMoment));
+    assert_eq!(rt; meter.charge(load(1, 6), green), Err(Refusal::Backward));
+    assert_eq!(rt; meter.charge(load(1, 7), green), Ok(()));
+    assert_eq!(rt; meter.charge(load(65_535, last), green), Ok(()));
+    assert_eq!(rt; meter.charge(load(1, last), green), Ok(()));
 }

@@ -5,6 +5,8 @@ use Rattle.std.proofs.lemmas.Bool.{cond-false}
 use Rattle.meter.specs.declared.measures.Arrival.{Arrival}
 use Rattle.meter.specs.declared.measures.State.{State}
 use Rattle.kinds.specs.Kinds.{any_meaning}
+use Rattle.colour.specs.declared.arrivals.LineFault.{LineFault}
+use Rattle.colour.specs.declared.arrivals.LineFault.TheVariants.{TooLong}
 use Rattle.colour.specs.declared.entries.Counts.{Counts}
 use Rattle.colour.specs.declared.session.Session.{Session}
 use Rattle.colour.specs.Arrivals.{arrival_of, moment_of}
@@ -12,14 +14,14 @@ use Rattle.colour.specs.Words.{words}
 use Rattle.colour.specs.Texts.{entry_text, counts_text}
 use Rattle.colour.specs.Report.{ending, lines_on, verdict_of, meter_after, counts_after, reported, text_from, held_line, Ended, Goes}
 
-arrival_long : (l : List ℕ) → 120 < length l → arrival_of l ≡ Err 0
+arrival_long : (l : List ℕ) → 120 < length l → arrival_of l ≡ Err TooLong
 unfolding arrival_of
-arrival_long l h = cond-false (leb (length l) 120) (moment_of (words l)) (Err 0) (lt-leb (length l) 120 h)
+arrival_long l h = cond-false (leb (length l) 120) (moment_of (words l)) (Err TooLong) (lt-leb (length l) 120 h)
 
 -- a line counts by its arrival alone
 reported_by : (m : State) (k : ℕ) (t : Counts) (l j : List ℕ) (ls : List (List ℕ)) → arrival_of l ≡ arrival_of j → reported m k t (l ∷ ls) ≡ reported m k t (j ∷ ls)
 unfolding reported
-reported_by m k t l j ls e = ap (λ (a : Result Arrival ℕ). entry_text (k + 1) (verdict_of m a) ++ reported (meter_after m a) (k + 1) (counts_after t m a) ls) e
+reported_by m k t l j ls e = ap (λ (a : Result Arrival LineFault). entry_text (k + 1) (verdict_of m a) ++ reported (meter_after m a) (k + 1) (counts_after t m a) ls) e
 
 ending_none : (l : List ℕ) → length l ≡ 0 → ending l ≡ []
 ending_none [] h = refl

@@ -7,7 +7,8 @@ use Rattle.meter.specs.Alone.{answers, coloured, left_by}
 use Rattle.meter.specs.Runs.{Answer}
 use Rattle.colour.specs.declared.entries.Count.{Count}
 use Rattle.colour.specs.declared.entries.Counts.{Counts}
-use Rattle.colour.specs.declared.entries.Verdict.TheVariants.{Malformed}
+use Rattle.colour.specs.declared.arrivals.LineFault.{LineFault}
+use Rattle.colour.specs.declared.entries.Rejection.TheVariants.{Malformed}
 use Rattle.colour.specs.Arrivals.{arrival_of}
 use Rattle.colour.specs.Texts.{entry_text, counts_text}
 use Rattle.colour.specs.Report.{lines, none, more, verdict_by, verdict_of, meter_after, counted_by, counts_after, reported, report}
@@ -20,11 +21,10 @@ abbrev plus : Counts → Counts → Counts
 plus t u = record { green = plus_count t.green u.green; yellow = plus_count t.yellow u.yellow; red = plus_count t.red u.red }
 
 count_is : (p q b d : ℕ) → p ≡ q → b ≡ d → ◌≡◌ {A = Count} (record { packets = p; bytes = b }) (record { packets = q; bytes = d })
-count_is p q b d e f = ap (λ x. record { packets = x; bytes = b }) e ∙ ap (λ x. record { packets = q; bytes = x }) f
+count_is p q b d e f = cc
 
 counts_is : (a b c x y z : Count) → a ≡ x → b ≡ y → c ≡ z → ◌≡◌ {A = Counts} (record { green = a; yellow = b; red = c }) (record { green = x; yellow = y; red = z })
-counts_is a b c x y z e f g =
-    ap (λ v. record { green = v; yellow = b; red = c }) e ∙ ap (λ v. record { green = x; yellow = v; red = c }) f ∙ ap (λ v. record { green = x; yellow = y; red = v }) g
+counts_is a b c x y z e f g = cc
 
 -- one packet more, noted in what came before or in what comes after
 more_moves : (c d : Count) (n : ℕ) → plus_count (more c n) d ≡ plus_count c (more d n)
@@ -43,19 +43,19 @@ noted_moves t a rest (Ok Red) rs = counts_is _ _ _ _ _ _ refl refl (more_moves t
 noted_moves t a rest (Err e) rs = refl
 
 -- the text, with counts from before
-abbrev since : Counts → ℕ → List (Result Arrival ℕ) → List Answer → List ℕ
+abbrev since : Counts → ℕ → List (Result Arrival LineFault) → List Answer → List ℕ
 since t k xs rs = numbered k (woven xs rs) ++ counts_text (plus t (totals (arrivals_in xs) rs))
 
 abbrev Tells : List (List ℕ) → Type 0
 Tells ls = (m : State) (k : ℕ) (t : Counts) → reported m k t ls ≡ since t k (map arrival_of ls) (answers m (arrivals_in (map arrival_of ls)))
 
-one_more : (ls : List (List ℕ)) → Tells ls → (m : State) (k : ℕ) (t : Counts) (x : Result Arrival ℕ)
+one_more : (ls : List (List ℕ)) → Tells ls → (m : State) (k : ℕ) (t : Counts) (x : Result Arrival LineFault)
     → entry_text (k + 1) (verdict_of m x) ++ reported (meter_after m x) (k + 1) (counts_after t m x) ls ≡ since t k (x ∷ map arrival_of ls) (answers m (arrivals_in (x ∷ map arrival_of ls)))
 one_more ls h m k t (Err w) =
     let xs = map arrival_of ls in
     let rs = answers m (arrivals_in xs) in
-    ap (λ l. entry_text (k + 1) (Malformed w) ++ l) (h m (k + 1) t)
-    ∙ sym (append_assoc (entry_text (k + 1) (Malformed w)) (numbered (k + 1) (woven xs rs)) (counts_text (plus t (totals (arrivals_in xs) rs))))
+    ap (λ l. entry_text (k + 1) (Err (Malformed w)) ++ l) (h m (k + 1) t)
+    ∙ sym (append_assoc (entry_text (k + 1) (Err (Malformed w))) (numbered (k + 1) (woven xs rs)) (counts_text (plus t (totals (arrivals_in xs) rs))))
 one_more ls h m k t (Ok a) =
     let xs = map arrival_of ls in
     let r = coloured m a in

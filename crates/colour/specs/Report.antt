@@ -1,27 +1,33 @@
 -- What a meter answers to a whole input: the report.
 -- lines_on, lines: the lines of an input, behind a line that has begun, and from its start
 -- verdict_of, meter_after, counts_after: a line's verdict, and the meter and the counts that it leaves
+-- answer_of: a line's colour with the size of its packet, or why it has none
 -- reported: the text for lines, from a meter, a number of lines and counts on; report: for a whole input
 -- noted, none: the counts after a packet, and at first
 -- Overflows, Noted: a sum that does not fit; what noting a packet answers and leaves
 -- text_from: what a session has yet to write, by the input that it has yet to take
 -- Judged, Ended, Goes: what judging a line, ending it, and taking some bytes leave
 -- Assumes nothing.
-use Rattle.std.specs.Prelude.{◌≡◌, ℕ, ◌+◌, ◌^◌, ◌≤◌, cond, ◌⊎◌, List, [], ◌∷◌, ◌++◌, Some, None, Ok, Err, vec_items, Option, Result, ◌==◌}
+use Rattle.std.specs.Prelude.{◌≡◌, ℕ, ◌+◌, ◌^◌, ◌≤◌, cond, ◌⊎◌, List, [], ◌∷◌, ◌++◌, Ok, Err, vec_items, Result, ◌==◌}
+use Rattle.std.specs.Result.{result_map_both}
 use Rattle.meter.specs.declared.measures.Arrival.{Arrival}
 use Rattle.meter.specs.declared.measures.PacketColour.{PacketColour}
 use Rattle.meter.specs.declared.measures.PacketColour.TheVariants.{Green, Yellow, Red}
 use Rattle.meter.specs.declared.measures.Refusal.{Refusal}
+use Rattle.meter.specs.declared.measures.Size.{Size}
 use Rattle.meter.specs.declared.measures.State.{State}
 use Rattle.meter.specs.Alone.{coloured, left_by}
 use Rattle.colour.specs.declared.entries.Count.{Count}
 use Rattle.colour.specs.declared.entries.Counts.{Counts}
-use Rattle.colour.specs.declared.entries.Verdict.{Verdict}
-use Rattle.colour.specs.declared.entries.Verdict.TheVariants.{Coloured, Refused, Malformed}
+use Rattle.colour.specs.declared.arrivals.LineFault.{LineFault}
+use Rattle.colour.specs.declared.entries.Rejection.{Rejection}
+use Rattle.colour.specs.declared.entries.Rejection.TheVariants.{Refused, Malformed}
+use Rattle.colour.specs.declared.entries.Stop.{Stop}
+use Rattle.colour.specs.declared.entries.Stop.TheVariants.{TooMany}
 use Rattle.kinds.specs.Kinds.{any_meaning}
 use Rattle.colour.specs.declared.session.Session.{Session}
 use Rattle.colour.specs.Arrivals.{arrival_of}
-use Rattle.colour.specs.Texts.{entry_text, counts_text}
+use Rattle.colour.specs.Texts.{Verdict, entry_text, counts_text}
 
 -- a last line without a line feed is a line, unless it is empty
 abbrev pub ending : List ℕ → List (List ℕ)
@@ -51,15 +57,19 @@ abbrev pub none : Counts
 none = record { green = zero; yellow = zero; red = zero }
 
 abbrev pub verdict_by : Result PacketColour Refusal → Verdict
-verdict_by (Ok c) = Coloured c
-verdict_by (Err r) = Refused r
+verdict_by answer = result_map_both (λ c. c) Refused answer
 
-abbrev pub verdict_of : State → Result Arrival ℕ → Verdict
+abbrev pub verdict_of : State → Result Arrival LineFault → Verdict
 verdict_of m (Ok a) = verdict_by (coloured m a)
-verdict_of m (Err w) = Malformed w
+verdict_of m (Err w) = Err (Malformed w)
+
+-- a line's colour with the size of its packet, or why it has none
+abbrev pub answer_of : State → Result Arrival LineFault → Result (PacketColour × Size) Rejection
+answer_of m (Ok a) = result_map_both (λ c. (c, a.size)) Refused (coloured m a)
+answer_of m (Err w) = Err (Malformed w)
 
 -- nothing is charged for a malformed line
-abbrev pub meter_after : State → Result Arrival ℕ → State
+abbrev pub meter_after : State → Result Arrival LineFault → State
 meter_after m (Ok a) = left_by m a
 meter_after m (Err w) = m
 
@@ -68,7 +78,7 @@ counted_by t n (Ok c) = noted t c n
 counted_by t n (Err r) = t
 
 -- what is refused counts nowhere
-abbrev pub counts_after : Counts → State → Result Arrival ℕ → Counts
+abbrev pub counts_after : Counts → State → Result Arrival LineFault → Counts
 counts_after t m (Ok a) = counted_by t a.size.0 (coloured m a)
 counts_after t m (Err w) = t
 
@@ -91,15 +101,15 @@ count_of t Red = t.red
 abbrev pub Overflows : Count → ℕ → Type 0
 Overflows c n = (2 ^ 64 ≤ c.packets + 1) ⊎ (2 ^ 64 ≤ c.bytes + n)
 
-abbrev pub Noted : Counts → PacketColour → ℕ → Counts → Option (Unit {0}) → Type 0
-Noted t c n after (Some _) = after ≡ noted t c n
-Noted t c n after None = (after ≡ t) × Overflows (count_of t c) n
+abbrev pub Noted : Counts → PacketColour → ℕ → Counts → Result (Unit {0}) Stop → Type 0
+Noted t c n after (Ok _) = after ≡ noted t c n
+Noted t c n after (Err stop) = (stop ≡ TooMany) × (after ≡ t) × Overflows (count_of t c) n
 
 abbrev pub text_from : Session → List ℕ → List ℕ
 text_from s input = reported (any_meaning s.meter) s.lines s.counts (lines_on (vec_items s.held) input)
 
 -- the line that a session holds
-abbrev pub held_line : Session → Result Arrival ℕ
+abbrev pub held_line : Session → Result Arrival LineFault
 held_line s = arrival_of (vec_items s.held)
 
 pub record Judged (s : Session) (v : Verdict) (after : Session) : Type 0 where

@@ -15,20 +15,20 @@ use Rattle.meter.specs.Alone.{answers}
 use Rattle.meter.specs.Runs.{Answer}
 use Rattle.colour.specs.declared.entries.Count.{Count}
 use Rattle.colour.specs.declared.entries.Counts.{Counts}
-use Rattle.colour.specs.declared.entries.Verdict.{Verdict}
-use Rattle.colour.specs.declared.entries.Verdict.TheVariants.{Malformed}
+use Rattle.colour.specs.declared.arrivals.LineFault.{LineFault}
+use Rattle.colour.specs.declared.entries.Rejection.TheVariants.{Malformed}
 use Rattle.colour.specs.Arrivals.{arrival_of}
-use Rattle.colour.specs.Texts.{entry_text, counts_text}
+use Rattle.colour.specs.Texts.{Verdict, entry_text, counts_text}
 use Rattle.colour.specs.Report.{lines, zero, more, verdict_by}
 
-abbrev pub arrivals_in : List (Result Arrival ℕ) → List Arrival
+abbrev pub arrivals_in : List (Result Arrival LineFault) → List Arrival
 arrivals_in [] = []
 arrivals_in (Ok a ∷ xs) = a ∷ arrivals_in xs
 arrivals_in (Err w ∷ xs) = arrivals_in xs
 
-abbrev pub woven : List (Result Arrival ℕ) → List Answer → List Verdict
+abbrev pub woven : List (Result Arrival LineFault) → List Answer → List Verdict
 woven [] rs = []
-woven (Err w ∷ xs) rs = Malformed w ∷ woven xs rs
+woven (Err w ∷ xs) rs = Err (Malformed w) ∷ woven xs rs
 woven (Ok a ∷ xs) [] = []
 woven (Ok a ∷ xs) (r ∷ rs) = verdict_by r ∷ woven xs rs
 
@@ -61,7 +61,7 @@ abbrev pub totals : List Arrival → List Answer → Counts
 totals arrivals rs = record { green = count_in Green arrivals rs; yellow = count_in Yellow arrivals rs; red = count_in Red arrivals rs }
 
 -- from a number of lines on, what lines give and what the meter answers to their arrivals
-abbrev pub text_of : ℕ → List (Result Arrival ℕ) → List Answer → List ℕ
+abbrev pub text_of : ℕ → List (Result Arrival LineFault) → List Answer → List ℕ
 text_of k xs rs = numbered k (woven xs rs) ++ counts_text (totals (arrivals_in xs) rs)
 
 abbrev pub told : State → List ℕ → List ℕ

@@ -1,22 +1,13 @@
 -- The words of a text, and the number that a word writes.
 -- blank: a space or a tab, which part words
--- blanks, word_length: how many blanks stand in front; how many bytes stand before the first blank
 -- words_on, words: the words of a text, behind a word that has begun, and from its start
 -- value: the number that decimal digits write; numeral: the number of a word, where it is one that fits 64 bits
 -- Assumes nothing.
-use Rattle.std.specs.Prelude.{ℕ, suc, ◌+◌, ◌-◌, ◌*◌, ◌^◌, Bool, cond, ◌&&◌, ◌||◌, List, [], ◌∷◌, ◌++◌, length, Some, None, Option, ◌==◌, nat_lt}
+use Rattle.std.specs.Prelude.{ℕ, ◌+◌, ◌-◌, ◌*◌, ◌^◌, Bool, cond, ◌&&◌, ◌||◌, List, [], ◌∷◌, ◌++◌, length, Some, None, Option, ◌==◌, nat_lt}
 use Rattle.std.specs.Str.{all_ascii_digits}
 
 abbrev pub blank : ℕ → Bool
 blank b = b == 32 || b == 9
-
-abbrev pub blanks : List ℕ → ℕ
-blanks [] = 0
-blanks (b ∷ t) = cond (blank b) (suc (blanks t)) 0
-
-abbrev pub word_length : List ℕ → ℕ
-word_length [] = 0
-word_length (b ∷ t) = cond (blank b) 0 (suc (word_length t))
 
 -- a word is never empty
 abbrev pub begun : List ℕ → List (List ℕ) → List (List ℕ)

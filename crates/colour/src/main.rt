@@ -29,21 +29,27 @@ const MOST_WORDS: usize = 6;
 // The longest argument that is read as a word.
 const LONGEST_WORD: usize = 64;
 
-// The words after the program's name. One that is too long for a word is no word that is known.
+// The word at an argument, if there is one. One that is too long for a word is no word that is known.
+fn word_at(rt: &HostRuntime, i: usize) -> Option<Word> {
+    let mut text = [0u8; LONGEST_WORD];
+    match rt.arg(i, &mut text) {
+        Ok(n) => Some(Word::read(&text[..n])),
+        Err(FillError::TooLong) => Some(Word::read(&[])),
+        Err(FillError::NotPresent) => None,
+    }
+}
+
+// The words after the program's name. `env::args` would fail on an argument that is no text.
 fn meter_words(rt: &HostRuntime) -> Result<Vec<Word>, AllocError> {
     let mut words = Vec::new(rt.alloc());
-    for i in 0..MOST_WORDS {
-        let mut text = [0u8; LONGEST_WORD];
-        match rt.arg(i + 1, &mut text) {
-            Ok(n) => words.push(Word::read(&text[0..n]))?,
-            Err(FillError::TooLong) => words.push(Word::read(&[]))?,
-            Err(FillError::NotPresent) => break,
-        }
+    for word in (1..=MOST_WORDS).map_while(|i| word_at(rt, i)) {
+        words.push(word)?;
     }
     Ok(words)
 }
 
 // The next bytes of the input; none at its end. A read that a signal cut short is made again.
+// A count that no run reaches ends this loop and the next one: `loop` and `rt.forever()` want a `Wait` bound.
 fn read_block<R: Read>(input: &mut R, block: &mut [u8]) -> io::Result<usize>
     ensures { IfOk result (λ n. n ≤ length block.new) }
 {
@@ -71,7 +77,7 @@ fn colour_input(rt: &HostRuntime, meter: AnyMeter) -> anyhow::Result<()> {
             output.flush()?;
             return Ok(());
         }
-        session.feed(&block[0..n], &mut out)?;
+        session.feed(&block[..n], &mut out)?;
         if out.len() >= BLOCK {
             output.write_all(out.as_bytes())?;
             out.clear();
@@ -121,7 +127,7 @@ mod tests {
         expected: &str,
     ) -> Result<(), Fail> {
         let text = text_for(heap, meter, input)?;
-        assert!(rt; text.as_str() == expected, "{}", meter);
+        assert_eq!(rt; text.as_str(), expected, "{}", meter);
         Ok(())
     }
 

@@ -1,12 +1,15 @@
 // The meter that words buy.
-ghost use Rattle.std.specs.Prelude.{◌≡◌, ◌<◌};
-ghost use Rattle.colour.specs.Purchase.{kind_named, word_of, cause_number, malformed, number_at, placed, end_at, gcra_of, token_of, single_of, committed_of, peaked_of, profile_of, Bought};
+ghost use Rattle.std.specs.Prelude.{◌≡◌, ℕ, Result};
+ghost use Rattle.colour.specs.declared.purchase.Cause.TheVariants.{Range};
+ghost use Rattle.kinds.specs.declared.profiles.Fault.{Fault};
+ghost use Rattle.colour.specs.Purchase.{kind_named, word_of, cause_number, malformed, Computes, checked_at, end_at, two_of, single_of, double_of, profile_of, Bought};
 
-use crate::words::{is, number};
+use crate::words::number;
 use kinds::making::{burst, excess, loose_burst, peak, rate, tolerance};
 use kinds::profiles::{AnyMeter, Fault, Profile};
 
-#[derive(Clone, Copy)]
+// A kind of meter, by its name.
+#[derive(Clone, Copy, PartialEq, Eq, Debug)]
 pub enum Kind {
     Vs,
     Lb,
@@ -16,27 +19,28 @@ pub enum Kind {
 }
 
 // What a word can stand for: a kind's name, a number.
-#[derive(Clone, Copy)]
+#[derive(Clone, Copy, PartialEq, Eq, Debug)]
 pub struct Word {
     pub kind: Option<Kind>,
     pub number: Option<u64>,
 }
 
 // Why a word is refused: it is missing, extra, or neither name nor number; or the number is out of range.
-#[derive(Clone, Copy)]
+#[derive(Clone, Copy, PartialEq, Eq, Debug)]
 pub enum Cause {
     Form,
     Range(Fault),
 }
 
 // The word of a meter that is refused, counted from 1.
-#[derive(Clone, Copy)]
+#[derive(Clone, Copy, PartialEq, Eq, Debug)]
 pub struct WordFault {
-    pub word: u8,
+    pub word: usize,
     pub cause: Cause,
 }
 
 impl Cause {
+    // The number that is printed. No discriminant: a fault has the number of its kind.
     pub fn number(self) -> u8
         ensures { result ≡ cause_number self }
     {
@@ -47,7 +51,16 @@ impl Cause {
     }
 }
 
+impl From<Fault> for Cause {
+    ghost from_gives = { λ fault cause. cause ≡ Range fault };
+
+    fn from(fault: Fault) -> Cause {
+        Cause::Range(fault)
+    }
+}
+
 impl Word {
+    // What a text can stand for. No `From`: a text that is neither name nor number would be lost in it.
     pub fn read(text: &[u8]) -> Word
         ensures { result ≡ word_of text.now }
     {
@@ -58,25 +71,21 @@ impl Word {
     }
 }
 
+// No `TryFrom`: its error would say nothing, and a word keeps the Option.
 fn kind_named(word: &[u8]) -> Option<Kind>
     ensures { result ≡ kind_named word.now }
 {
-    if is(word, "vs") {
-        Some(Kind::Vs)
-    } else if is(word, "lb") {
-        Some(Kind::Lb)
-    } else if is(word, "tb") {
-        Some(Kind::Tb)
-    } else if is(word, "sr") {
-        Some(Kind::Sr)
-    } else if is(word, "tr") {
-        Some(Kind::Tr)
-    } else {
-        None
+    match word {
+        b"vs" => Some(Kind::Vs),
+        b"lb" => Some(Kind::Lb),
+        b"tb" => Some(Kind::Tb),
+        b"sr" => Some(Kind::Sr),
+        b"tr" => Some(Kind::Tr),
+        _ => None,
     }
 }
 
-fn form(word: u8) -> WordFault
+fn form(word: usize) -> WordFault
     ensures { result ≡ malformed word }
 {
     WordFault {
@@ -85,143 +94,100 @@ fn form(word: u8) -> WordFault
     }
 }
 
-// The number at an index; a missing word is no number.
-fn number_at(words: &[Word], i: u8) -> Result<u64, WordFault>
-    requires { i < 8 }
-    ensures { result ≡ number_at words.now i }
+// The number at an index, as a check passes it; a missing word is no number.
+fn amount<T, F: FnOnce(u64) -> Result<T, Fault>>(
+    words: &[Word],
+    i: u8,
+    check: F,
+) -> Result<T, WordFault>
+    requires { F.IsAlwaysCallable check }
+    ensures { (f : ℕ → Result T Fault) → Computes (F.post check) f → result ≡ checked_at words.now i f }
 {
-    let at = i as usize;
-    if at >= words.len() {
-        return Err(form(i + 1));
-    }
-    match words[at].number {
-        Some(n) => Ok(n),
-        None => Err(form(i + 1)),
-    }
-}
-
-// A check's fault, with the place of its word.
-fn ranged<T>(i: u8, checked: Result<T, Fault>) -> Result<T, WordFault>
-    requires { i < 8 }
-    ensures { result ≡ placed i checked }
-{
-    match checked {
-        Ok(n) => Ok(n),
-        Err(fault) => Err(WordFault {
-            word: i + 1,
-            cause: Cause::Range(fault),
-        }),
-    }
+    let at = usize::from(i);
+    let number = words
+        .get(at)
+        .and_then(|word| word.number)
+        .ok_or(form(at + 1))?;
+    check(number).map_err(|fault| WordFault {
+        word: at + 1,
+        cause: fault.into(),
+    })
 }
 
 // No word stands at an index.
 fn ended(words: &[Word], i: u8) -> Result<(), WordFault>
-    requires { i < 8 }
     ensures { result ≡ end_at words.now i }
 {
-    if words.len() > i as usize {
-        return Err(form(i + 1));
+    let at = usize::from(i);
+    if words.len() > at {
+        return Err(form(at + 1));
     }
     Ok(())
 }
 
-// The two numbers of `vs` and `lb`.
-fn read_gcra(words: &[Word]) -> Result<(u32, u64), WordFault>
-    ensures { result ≡ gcra_of words.now }
+// Two numbers and no more: an interval or a rate, and one that a check passes.
+fn read_two<T: Drop, F: FnOnce(u64) -> Result<T, Fault>>(
+    words: &[Word],
+    check: F,
+) -> Result<(u64, T), WordFault>
+    requires { F.IsAlwaysCallable check }
+    ensures { (f : ℕ → Result T Fault) → Computes (F.post check) f → result ≡ two_of f words.now }
 {
-    let interval = ranged(1, rate(number_at(words, 1)?))?;
-    let limit = ranged(2, tolerance(number_at(words, 2)?))?;
+    let first = amount(words, 1, rate)?;
+    let second = amount(words, 2, check)?;
     ended(words, 3)?;
-    Ok((interval, limit))
+    Ok((u64::from(first), second))
 }
 
-fn read_tb(words: &[Word]) -> Result<(u32, u32), WordFault>
-    ensures { result ≡ token_of words.now }
-{
-    let r = ranged(1, rate(number_at(words, 1)?))?;
-    let b = ranged(2, burst(number_at(words, 2)?))?;
-    ended(words, 3)?;
-    Ok((r, b))
-}
-
-fn read_sr(words: &[Word]) -> Result<(u32, u32, u32), WordFault>
+fn read_sr(words: &[Word]) -> Result<Profile, WordFault>
     ensures { result ≡ single_of words.now }
 {
-    let cir = ranged(1, rate(number_at(words, 1)?))?;
-    let cbs = ranged(2, loose_burst(number_at(words, 2)?))?;
-    let ebs = ranged(3, excess(cbs, number_at(words, 3)?))?;
+    let cir = amount(words, 1, rate)?;
+    let cbs = amount(words, 2, loose_burst)?;
+    let ebs = amount(words, 3, |ebs| excess(cbs, ebs))?;
     ended(words, 4)?;
-    Ok((cir, cbs, ebs))
+    Ok(Profile::Sr {
+        cir: u64::from(cir),
+        cbs: u64::from(cbs),
+        ebs: u64::from(ebs),
+    })
 }
 
-// The first two numbers of `tr`.
-fn read_committed(words: &[Word]) -> Result<(u32, u32), WordFault>
-    ensures { result ≡ committed_of words.now }
+fn read_tr(words: &[Word]) -> Result<Profile, WordFault>
+    ensures { result ≡ double_of words.now }
 {
-    let cir = ranged(1, rate(number_at(words, 1)?))?;
-    let cbs = ranged(2, burst(number_at(words, 2)?))?;
-    Ok((cir, cbs))
-}
-
-// The last two.
-fn read_peak(words: &[Word], cir: u32) -> Result<(u32, u32), WordFault>
-    ensures { result ≡ peaked_of words.now cir }
-{
-    let pir = ranged(3, peak(cir, number_at(words, 3)?))?;
-    let pbs = ranged(4, burst(number_at(words, 4)?))?;
+    let cir = amount(words, 1, rate)?;
+    let cbs = amount(words, 2, burst)?;
+    let pir = amount(words, 3, |pir| peak(cir, pir))?;
+    let pbs = amount(words, 4, burst)?;
     ended(words, 5)?;
-    Ok((pir, pbs))
+    Ok(Profile::Tr {
+        cir: u64::from(cir),
+        cbs: u64::from(cbs),
+        pir: u64::from(pir),
+        pbs: u64::from(pbs),
+    })
 }
 
 fn read_profile(words: &[Word]) -> Result<Profile, WordFault>
     ensures { result ≡ profile_of words.now }
 {
-    if words.len() == 0 {
-        return Err(form(1));
-    }
-    let Some(kind) = words[0].kind else {
-        return Err(form(1));
-    };
+    let kind = words.first().and_then(|word| word.kind).ok_or(form(1))?;
     match kind {
-        Kind::Vs => {
-            let (interval, tolerance) = read_gcra(words)?;
-            Ok(Profile::Vs {
-                interval: interval as u64,
-                tolerance,
-            })
-        }
-        Kind::Lb => {
-            let (interval, tolerance) = read_gcra(words)?;
-            Ok(Profile::Lb {
-                interval: interval as u64,
-                tolerance,
-            })
-        }
-        Kind::Tb => {
-            let (rate, burst) = read_tb(words)?;
-            Ok(Profile::Tb {
-                rate: rate as u64,
-                burst: burst as u64,
-            })
-        }
-        Kind::Sr => {
-            let (cir, cbs, ebs) = read_sr(words)?;
-            Ok(Profile::Sr {
-                cir: cir as u64,
-                cbs: cbs as u64,
-                ebs: ebs as u64,
-            })
-        }
-        Kind::Tr => {
-            let (cir, cbs) = read_committed(words)?;
-            let (pir, pbs) = read_peak(words, cir)?;
-            Ok(Profile::Tr {
-                cir: cir as u64,
-                cbs: cbs as u64,
-                pir: pir as u64,
-                pbs: pbs as u64,
-            })
-        }
+        Kind::Vs => read_two(words, tolerance).map(|(interval, tolerance)| Profile::Vs {
+            interval,
+            tolerance,
+        }),
+        Kind::Lb => read_two(words, tolerance).map(|(interval, tolerance)| Profile::Lb {
+            interval,
+            tolerance,
+        }),
+        Kind::Tb => read_two(words, burst).map(|(rate, burst)| Profile::Tb {
+            rate,
+            burst: u64::from(burst),
+        }),
+        Kind::Sr => read_sr(words),
+        Kind::Tr => read_tr(words),
     }
 }
 
@@ -230,8 +196,5 @@ pub fn buy(words: &[Word]) -> Result<AnyMeter, WordFault>
     ensures { Bought words.now result }
 {
     let profile = read_profile(words)?;
-    match AnyMeter::new(profile) {
-        Ok(meter) => Ok(meter),
-        Err(_) => unreachable(),
-    }
+    Ok(AnyMeter::new(profile).unwrap())
 }

@@ -1,12 +1,22 @@
 // The text of each line that is printed.
-ghost use Rattle.std.specs.Prelude.{Some};
-ghost use Rattle.colour.specs.Texts.{entry_text, count_text, counts_text, fault_text};
+ghost use Rattle.std.specs.Prelude.{◌≡◌, Some};
+ghost use Rattle.colour.specs.Texts.{colour_name, entry_text, count_text, counts_text, fault_text};
 
-use crate::entries::{Count, Counts, Entry, Stop, Verdict};
+use crate::entries::{Count, Counts, Entry, Rejection};
 use crate::purchase::WordFault;
 use meter::measures::PacketColour;
-use std::error::Error;
 use std::fmt;
+
+// The colours' names, for reading and writing. No Display: the type is `meter`'s.
+pub(crate) fn colour_name(colour: PacketColour) -> &'static str
+    ensures { result.now ≡ colour_name colour }
+{
+    match colour {
+        PacketColour::Green => "green",
+        PacketColour::Yellow => "yellow",
+        PacketColour::Red => "red",
+    }
+}
 
 impl fmt::Display for Entry {
     ghost output = { λ e. Some (entry_text e.number e.verdict) };
@@ -14,14 +24,13 @@ impl fmt::Display for Entry {
     fn fmt<W: fmt::Write>(&self, f: &mut fmt::Formatter<W>) -> fmt::Result {
         let number = self.number;
         match self.verdict {
-            Verdict::Coloured(PacketColour::Green) => writeln!(f, "{number} green"),
-            Verdict::Coloured(PacketColour::Yellow) => writeln!(f, "{number} yellow"),
-            Verdict::Coloured(PacketColour::Red) => writeln!(f, "{number} red"),
-            Verdict::Refused(refusal) => {
-                let cause = refusal.number();
-                writeln!(f, "{number} refused {cause}")
+            Ok(colour) => writeln!(f, "{number} {}", colour_name(colour)),
+            Err(Rejection::Refused(refusal)) => {
+                writeln!(f, "{number} refused {}", refusal.number())
             }
-            Verdict::Malformed(word) => writeln!(f, "{number} refused 1 word {word}"),
+            Err(Rejection::Malformed(fault)) => {
+                writeln!(f, "{number} refused 1 word {}", fault.word())
+            }
         }
     }
 }
@@ -30,9 +39,7 @@ impl fmt::Display for Count {
     ghost output = { λ n. Some (count_text n) };
 
     fn fmt<W: fmt::Write>(&self, f: &mut fmt::Formatter<W>) -> fmt::Result {
-        let packets = self.packets;
-        let bytes = self.bytes;
-        write!(f, "{packets} {bytes}")
+        write!(f, "{} {}", self.packets, self.bytes)
     }
 }
 
@@ -54,20 +61,3 @@ impl fmt::Display for WordFault {
         writeln!(f, "meter word {word} refused {cause}")
     }
 }
-
-impl fmt::Display for Stop {
-    fn fmt<W: fmt::Write>(&self, f: &mut fmt::Formatter<W>) -> fmt::Result {
-        match self {
-            Stop::NoMemory => write!(f, "no memory"),
-            Stop::TooMany => write!(f, "more lines or bytes than can be counted"),
-        }
-    }
-}
-
-impl fmt::Debug for Stop {
-    fn fmt<W: fmt::Write>(&self, f: &mut fmt::Formatter<W>) -> fmt::Result {
-        fmt::Display::fmt(self, f)
-    }
-}
-
-impl Error for Stop {}

@@ -1,6 +1,7 @@
 -- The unused meter of what was bought answers as its document does.
 -- Assumes nothing.
-use Rattle.std.proofs.Common.{◌≡◌, ℕ, cond, ◌&&◌, ltb, leb, List, [], ◌∷◌, Ok, Err, Result, sym, refl, ap, ◌∙◌, arith}
+use Rattle.std.proofs.Common.{◌≡◌, ℕ, cond, ◌&&◌, ltb, leb, List, [], ◌∷◌, Ok, Err, Result, refl, ap, ◌∙◌}
+use Rattle.std.specs.Result.{result_and}
 use Rattle.std.proofs.lemmas.List.{map-id}
 use Rattle.meter.specs.declared.measures.Arrival.{Arrival}
 use Rattle.meter.specs.declared.measures.Refusal.{Refusal}
@@ -8,42 +9,38 @@ use Rattle.meter.specs.declared.measures.State.{State}
 use Rattle.meter.specs.declared.measures.Terms.{Terms}
 use Rattle.meter.specs.Rules.{largest_size, largest_moment, unused}
 use Rattle.meter.specs.Alone.{answers}
+use Rattle.meter.specs.Runs.{Answer}
 use Rattle.kinds.specs.declared.profiles.Fault.{Fault}
-use Rattle.documents.specs.declared.modes.Mode.{Mode}
-use Rattle.documents.specs.declared.modes.Mode.TheVariants.{Blind, Aware}
+use Rattle.meter.specs.declared.measures.Mode.{Mode}
+use Rattle.meter.specs.declared.measures.Mode.TheVariants.{Blind, Aware}
 use Rattle.kinds.specs.declared.profiles.Profile.{Profile}
 use Rattle.kinds.specs.declared.profiles.Profile.TheVariants.{Vs, Lb, Tb, Sr, Tr}
 use Rattle.documents.specs.Documents.{Outcome, at, stepped, as_green, greened, aware, blind, documented, sr_blind, sr_aware, tr_blind, tr_aware, full, Rising}
 use Rattle.documents.specs.Fresh.{seen}
-use Rattle.kinds.specs.Making.{and_then, rate_of, tolerance_of, burst_of, loose_burst_of, excess_of, peak_of, gcra_terms, token_terms, single_terms, two_terms, bought, fresh}
+use Rattle.kinds.specs.Making.{rate_of, tolerance_of, burst_of, loose_burst_of, excess_of, peak_of, bought, fresh}
 use Rattle.documents.proofs.Uncoloured.{vs_runs, lb_runs, tb_runs}
 use Rattle.documents.proofs.Single.{sr_runs}
 use Rattle.documents.proofs.Two.{tr_runs}
 
-passed : {X : Type 0} (c : Result ℕ Fault) (r : Result X Fault) (x : X) → and_then c r ≡ Ok x → r ≡ Ok x
+passed : {X : Type 0} (c : Result ℕ Fault) (r : Result X Fault) (x : X) → result_and c r ≡ Ok x → r ≡ Ok x
 passed (Ok n) r x e = e
-passed (Err f) r x e = let z : ◌≡◌ {A = ℕ} 0 1 = cc in absurd (omega arith)
+passed (Err f) r x e = cc
 
-ok_same : {X : Type 0} (x y : X) → ◌≡◌ {A = Result X Fault} (Ok x) (Ok y) → x ≡ y
-ok_same x y e = cc
+same_terms : (v w : Terms) (arrivals : List Arrival) (rs : List Answer) → ◌≡◌ {A = Result Terms Fault} (Ok v) (Ok w) → answers (unused v) arrivals ≡ rs → answers (unused w) arrivals ≡ rs
+same_terms v w arrivals rs e h = let is : w ≡ v = cc in ap (λ u. answers (unused u) arrivals) is ∙ h
 
 -- on the terms that were bought, the unused meter runs as the document, where each packet's own colour counts
 aware_runs : (p : Profile) (w : Terms) → bought p ≡ Ok w → (arrivals : List Arrival) → Rising 0 arrivals → answers (unused w) arrivals ≡ aware p arrivals
 aware_runs (Vs t l) w e arrivals up =
-    let is = ok_same (gcra_terms t l) w (passed (tolerance_of l) _ w (passed (rate_of t) _ w e)) in
-    ap (λ u. answers (unused u) arrivals) (sym is) ∙ vs_runs t l arrivals up
+    same_terms _ w arrivals _ (passed (tolerance_of l) _ w (passed (rate_of t) _ w e)) (vs_runs t l arrivals up)
 aware_runs (Lb t l) w e arrivals up =
-    let is = ok_same (gcra_terms t l) w (passed (tolerance_of l) _ w (passed (rate_of t) _ w e)) in
-    ap (λ u. answers (unused u) arrivals) (sym is) ∙ lb_runs t l arrivals up
+    same_terms _ w arrivals _ (passed (tolerance_of l) _ w (passed (rate_of t) _ w e)) (lb_runs t l arrivals up)
 aware_runs (Tb r b) w e arrivals up =
-    let is = ok_same (token_terms r b) w (passed (burst_of b) _ w (passed (rate_of r) _ w e)) in
-    ap (λ u. answers (unused u) arrivals) (sym is) ∙ tb_runs r b arrivals up
+    same_terms _ w arrivals _ (passed (burst_of b) _ w (passed (rate_of r) _ w e)) (tb_runs r b arrivals up)
 aware_runs (Sr cir cbs ebs) w e arrivals up =
-    let is = ok_same (single_terms cir cbs ebs) w (passed (excess_of cbs ebs) _ w (passed (loose_burst_of cbs) _ w (passed (rate_of cir) _ w e))) in
-    ap (λ u. answers (unused u) arrivals) (sym is) ∙ sr_runs cir cbs ebs arrivals up
+    same_terms _ w arrivals _ (passed (excess_of cbs ebs) _ w (passed (loose_burst_of cbs) _ w (passed (rate_of cir) _ w e))) (sr_runs cir cbs ebs arrivals up)
 aware_runs (Tr cir cbs pir pbs) w e arrivals up =
-    let is = ok_same (two_terms cir cbs pir pbs) w (passed (burst_of pbs) _ w (passed (peak_of cir pir) _ w (passed (burst_of cbs) _ w (passed (rate_of cir) _ w e)))) in
-    ap (λ u. answers (unused u) arrivals) (sym is) ∙ tr_runs cir cbs pir pbs arrivals up
+    same_terms _ w arrivals _ (passed (burst_of pbs) _ w (passed (peak_of cir pir) _ w (passed (burst_of cbs) _ w (passed (rate_of cir) _ w e)))) (tr_runs cir cbs pir pbs arrivals up)
 
 greened_rising : (t : ℕ) (arrivals : List Arrival) → Rising t arrivals → Rising t (greened arrivals)
 greened_rising t [] up = tt
@@ -74,8 +71,4 @@ documented_runs Blind p w e arrivals up = aware_runs p w e (greened arrivals) (g
 -- a meter that was made is the unused one on the terms that were bought
 pub made_terms : (b : Result Terms Fault) (m : State) → Ok m ≡ fresh b → (w : Terms) × (b ≡ Ok w) × (m ≡ unused w)
 made_terms (Ok w) m e = (w, refl, cc)
-made_terms (Err f) m e = let z : ◌≡◌ {A = ℕ} 0 1 = cc in absurd (omega arith)
-
-pub unmade : (b : Result Terms Fault) (f : Fault) → Err f ≡ fresh b → b ≡ Err f
-unmade (Ok w) f e = let z : ◌≡◌ {A = ℕ} 0 1 = cc in absurd (omega arith)
-unmade (Err g) f e = let q : f ≡ g = cc in ap Err (sym q)
+made_terms (Err f) m e = cc

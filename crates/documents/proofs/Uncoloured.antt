@@ -1,6 +1,7 @@
 -- GCRA in its two forms and the token bucket, which know no colours, against their own steps.
 -- Assumes nothing.
-use Rattle.std.proofs.Common.{◌≡◌, ℕ, ◌+◌, ◌-◌, ◌*◌, ◌<◌, ◌≤◌, min, max, Bool, true, false, ◌&&◌, leb, List, Ok, refl, ap, ◌∙◌, arith}
+use Rattle.std.proofs.Common.{◌≡◌, ℕ, ◌+◌, ◌-◌, ◌*◌, ◌<◌, ◌≤◌, min, max, Bool, true, false, leb, List, Ok, refl, ap, ◌∙◌, arith}
+use Rattle.std.proofs.Math.Bool.{and-true}
 use Rattle.std.proofs.lemmas.Bool.{le-leb, lt-leb, leb-true, leb-false}
 use Rattle.meter.specs.declared.measures.Arrival.{Arrival}
 use Rattle.meter.specs.declared.measures.Colour.{Colour}
@@ -19,10 +20,6 @@ use Rattle.documents.proofs.Readings.{Reads, reads_later, reads_charged, reads_a
 pub same_test : (a b c d : ℕ) (v : Bool) → leb c d ≡ v → (c ≤ d → a ≤ b) → (d < c → b < a) → leb a b ≡ v
 same_test a b c d true e f g = le-leb a b (f (leb-true c d e))
 same_test a b c d false e f g = lt-leb a b (g (leb-false c d e))
-
-pub and_true : (x v : Bool) → x ≡ v → (x && true) ≡ v
-and_true true v e = e
-and_true false v e = e
 
 -- a packet at a meter at which green and yellow fit alike
 module _ {D : Type 0} (R : State → D → ℕ → Type 0) (m : State) (a : Arrival) (d next : D) where
@@ -58,7 +55,7 @@ module _ (T L : ℕ) where
 
   -- both colours fit where the cost stays within T + L
   gcra_fits : {m : State} {t x : ℕ} (n : ℕ) (v : Bool) → Reads m w t x 0 → leb (x + cost w n) ((T + L) * 1) ≡ v → (fitting m n t Colour.Green ≡ v) × (fitting m n t Colour.Yellow ≡ v)
-  gcra_fits n v r e = (reads_fits n Colour.Green r ∙ and_true _ v e, reads_fits n Colour.Yellow r ∙ and_true _ v e)
+  gcra_fits n v r e = (reads_fits n Colour.Green r ∙ and-true _ ∙ e, reads_fits n Colour.Yellow r ∙ and-true _ ∙ e)
 
   -- the charge, at the meter's own terms
   charged_as_lem : {m : State} {t x : ℕ} (n : ℕ) (k : Colour) (x' : ℕ) → Reads m w t x 0 → x + T ≡ x' → Reads (counted m t (cost (terms_of m) n) k) w t x' 0
@@ -115,8 +112,8 @@ module _ (rate burst : ℕ) where
       let test : leb ((depth - have) + cost u a.size.0) depth ≡ v = same_test _ _ (tokens a) have v refl (λ h. omega arith) (λ h. omega arith) in
       let c : cost (terms_of m) a.size.0 ≡ tokens a = ap (λ x. cost x a.size.0) r.terms ∙ omega arith in
       uncoloured_one Tokens m a (record { count = have; up_to = at a }) (record { count = have - tokens a; up_to = at a }) v
-      (reads_fits a.size.0 Colour.Green r' ∙ and_true _ v test)
-      (reads_fits a.size.0 Colour.Yellow r' ∙ and_true _ v test)
+      (reads_fits a.size.0 Colour.Green r' ∙ and-true _ ∙ test)
+      (reads_fits a.size.0 Colour.Yellow r' ∙ and-true _ ∙ test)
       (r', omega arith, refl)
       (λ e k. (reads_as (depth - (have - tokens a)) 0 (reads_charged (cost (terms_of m) a.size.0) k r') (omega (arith, leb-true (tokens a) have e)) refl, omega arith, refl))
 

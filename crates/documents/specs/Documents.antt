@@ -12,8 +12,8 @@ use Rattle.meter.specs.declared.measures.PacketColour.TheVariants.{Green, Yellow
 use Rattle.meter.specs.declared.measures.Refusal.TheVariants.{BadSize, BadMoment}
 use Rattle.meter.specs.Rules.{largest_size, largest_moment}
 use Rattle.meter.specs.Runs.{Answer}
-use Rattle.documents.specs.declared.modes.Mode.{Mode}
-use Rattle.documents.specs.declared.modes.Mode.TheVariants.{Blind, Aware}
+use Rattle.meter.specs.declared.measures.Mode.{Mode}
+use Rattle.meter.specs.declared.measures.Mode.TheVariants.{Blind, Aware}
 use Rattle.kinds.specs.declared.profiles.Profile.{Profile}
 use Rattle.kinds.specs.declared.profiles.Profile.TheVariants.{Vs, Lb, Tb, Sr, Tr}
 use Rattle.kinds.specs.Kinds.{grains_a_byte}

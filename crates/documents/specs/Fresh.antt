@@ -6,19 +6,17 @@ use Rattle.std.specs.Prelude.{◌≡◌, true, List, map, is_ok, Ok, Err}
 use Rattle.meter.specs.declared.measures.Arrival.{Arrival}
 use Rattle.meter.specs.declared.measures.Terms.{Terms}
 use Rattle.meter.specs.Rules.{unused}
-use Rattle.meter.specs.Alone.{answers}
+use Rattle.meter.specs.Alone.{answers, seen_as}
 use Rattle.meter.specs.Runs.{Answer}
-use Rattle.documents.specs.declared.modes.Mode.{Mode}
-use Rattle.documents.specs.declared.modes.Mode.TheVariants.{Blind, Aware}
+use Rattle.meter.specs.declared.measures.Mode.{Mode}
 use Rattle.kinds.specs.declared.profiles.Profile.{Profile}
-use Rattle.documents.specs.declared.modes.Unrun.{Unrun}
-use Rattle.documents.specs.declared.modes.Unrun.TheVariants.{Unmade, NoMemory}
-use Rattle.documents.specs.Documents.{as_green, documented, Rising}
+use Rattle.documents.specs.declared.colouring.Unrun.{Unrun}
+use Rattle.documents.specs.declared.colouring.Unrun.TheVariants.{Unmade, NoMemory}
+use Rattle.documents.specs.Documents.{documented, Rising}
 use Rattle.kinds.specs.Making.{bought}
 
 abbrev pub seen_by : Mode → Arrival → Arrival
-seen_by Aware a = a
-seen_by Blind a = as_green a
+seen_by mode a = record { moment = a.moment; size = a.size; colour = seen_as mode a.colour }
 
 abbrev pub seen : Mode → List Arrival → List Arrival
 seen mode arrivals = map (seen_by mode) arrivals

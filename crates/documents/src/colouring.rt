@@ -1,13 +1,19 @@
 // A fresh meter over a list of packets, which it colours as its document says.
 ghost use Rattle.std.specs.Prelude.{◌≡◌, IfOk, MatchResult};
-ghost use Rattle.documents.specs.Fresh.{seen_by, seen, Coloured, Uncoloured};
-ghost use Rattle.documents.specs.declared.modes.Unrun.TheVariants.{Unmade, NoMemory};
+ghost use Rattle.documents.specs.Fresh.{seen, Coloured, Uncoloured};
+ghost use Rattle.documents.specs.declared.colouring.Unrun.TheVariants.{Unmade, NoMemory};
 
-use crate::modes::{Mode, Unrun};
 use kinds::profiles::{AnyMeter, Fault, Profile};
 use meter::alone::colour_all;
-use meter::measures::{Arrival, PacketColour, Refusal};
+use meter::measures::{Arrival, Mode, PacketColour, Refusal};
 use std::alloc::{AllocError, Global};
+
+// Why no list of packets was coloured.
+#[derive(Clone, Copy, PartialEq, Eq, Debug)]
+pub enum Unrun {
+    Unmade(Fault),
+    NoMemory,
+}
 
 impl From<Fault> for Unrun {
     ghost from_gives = { λ fault r. r ≡ Unmade fault };
@@ -25,29 +31,14 @@ impl From<AllocError> for Unrun {
     }
 }
 
-impl Mode {
-    fn sees(self, arrival: Arrival) -> Arrival
-        ensures { result ≡ seen_by self arrival }
-    {
-        match self {
-            Mode::Aware => arrival,
-            Mode::Blind => Arrival {
-                moment: arrival.moment,
-                size: arrival.size,
-                colour: PacketColour::Green,
-            },
-        }
-    }
-}
-
 fn all_seen(heap: Global, mode: Mode, arrivals: &[Arrival]) -> Result<Vec<Arrival>, AllocError>
     ensures { IfOk result (λ v. v.items ≡ seen mode arrivals.now) }
 {
-    let mut packets = Vec::new(heap);
-    for arrival in arrivals {
-        packets.push(mode.sees(*arrival))?;
-    }
-    Ok(packets)
+    let packets = arrivals.iter().map(|arrival| Arrival {
+        colour: mode.sees(arrival.colour),
+        ..*arrival
+    });
+    packets.collect(heap)
 }
 
 // The colours of a list of packets at an unused meter.
@@ -61,6 +52,5 @@ pub fn colour_fresh(
 {
     let mut meter = AnyMeter::new(profile)?;
     let packets = all_seen(heap, mode, arrivals)?;
-    let colours = colour_all(heap, &mut meter, &packets)?;
-    Ok(colours)
+    Ok(colour_all(heap, &mut meter, &packets)?)
 }

@@ -97,4 +97,4 @@ module _ {K M : Type 0} {spread : K → ℕ} {rows : List (Row K M)} {heads : Li
 -- a search that found nothing says that there is nothing
 pub none_found : {K M : Type 0} (rows : List (Row K M)) (used : ℕ) (k : K) (r : Option ℕ) → false ≡ is_some r → Found rows used k r → Absent rows used k
 none_found rows used k None e f = f
-none_found rows used k (Some i) e f = let z : ◌≡◌ {A = ℕ} 0 1 = cc in absurd (omega arith)
+none_found rows used k (Some i) e f = cc

@@ -1,4 +1,5 @@
 pub mod Chains
 pub mod Linked
 pub mod Grown
+pub mod Whole
 pub mod MapLaws

@@ -1,41 +1,29 @@
 -- The laws of the map, and the table that is one.
 -- Assumes nothing.
-use Rattle.std.proofs.Common.{◌≡◌, ℕ, ◌+◌, ◌<◌, ◌≤◌, Bool, true, false, cond, ◌||◌, eqb, ltb, ◌⊎◌, List, [], ◌∷◌, ◌++◌, length, get_or, drop, is_some, is_ok, Some, None, Ok, Err, Option, Result, sym, refl, ap, ◌∙◌, subst, inl, inr, ⊎_elim, append_assoc, arith}
+use Rattle.std.proofs.Common.{◌≡◌, ℕ, ◌+◌, ◌<◌, Bool, true, false, cond, ◌||◌, ltb, ◌⊎◌, List, [], ◌∷◌, ◌++◌, length, get_or, drop, is_some, Some, None, Ok, Err, Option, Result, sym, refl, ap, ◌∙◌, subst, inl, inr, ⊎_elim, append_assoc, arith}
 use Rattle.std.proofs.lemmas.List.{at_drop_more}
-use Rattle.std.proofs.lemmas.Bool.{and_parts, and_from, eqb-true, eq-eqb, cases_Bool, lt-ltb, le-ltb}
+use Rattle.std.proofs.lemmas.Slice.Eq.{bytes_eq-Decides}
+use Rattle.std.proofs.lemmas.Bool.{cases_Bool, lt-ltb, le-ltb}
+use Rattle.std.specs.declared.cmp.PartialEq as comparing
+use Rattle.std.specs.Option.{ok_or}
+use Rattle.flow.specs.declared.key.Key as keys
 use Rattle.flow.specs.declared.row.Call.{Call}
 use Rattle.flow.specs.declared.row.Reply.{Reply}
-use Rattle.flow.specs.declared.row.Row.{Row}
 use Rattle.flow.specs.declared.row.Unplaced.{Unplaced}
+use Rattle.flow.specs.declared.row.Unplaced.TheVariants.{Full}
 use Rattle.flow.specs.declared.table.FlowTable.{FlowTable}
-use Rattle.flow.specs.Keys.{chain_of}
-use Rattle.flow.specs.Rows.{At}
-use Rattle.flow.specs.Tables.{rows_of, Whole, Held, Missing, RowOf, Read, Replaces, Places, Puts}
-use Rattle.flow.specs.Maps.{same_bytes, Entry, entry, alike, lookup, put, Mapped, fits, reply_to, after_call, replies, after_all}
-
-same_true : (xs ys : List ℕ) → same_bytes xs ys ≡ true → xs ≡ ys
-same_true [] [] e = refl
-same_true [] (y ∷ ys) e = let z : ◌≡◌ {A = ℕ} 0 1 = cc in absurd (omega arith)
-same_true (x ∷ xs) [] e = let z : ◌≡◌ {A = ℕ} 0 1 = cc in absurd (omega arith)
-same_true (x ∷ xs) (y ∷ ys) e =
-    let p = and_parts (eqb x y) (same_bytes xs ys) e in
-    let a = eqb-true x y p.0 in
-    let b = same_true xs ys p.1 in
-    cc
-
-same_refl : (xs : List ℕ) → same_bytes xs xs ≡ true
-same_refl [] = refl
-same_refl (x ∷ xs) = and_from (eqb x x) (same_bytes xs xs) (eq-eqb x x refl) (same_refl xs)
+use Rattle.flow.specs.Tables.{rows_of, Held, Missing, RowOf, Same, Read, Replaces, Places, Puts}
+use Rattle.flow.specs.Maps.{Entry, entry, alike, placed, lookup, put, Mapped, fits, reply_to, after_call, replies, after_all}
 
 no : {P : Type 0} → true ≡ false → P
-no e = let z : ◌≡◌ {A = ℕ} 0 1 = cc in absurd (omega arith)
+no e = cc
 
 module _ {K : Type 0} (bytes : K → List ℕ) (told : (j k : K) → bytes j ≡ bytes k → j ≡ k) where
   alike_true : (j k : K) → alike bytes j k ≡ true → j ≡ k
-  alike_true j k e = told j k (same_true (bytes j) (bytes k) e)
+  alike_true j k e = told j k ((bytes_eq-Decides (bytes j) (bytes k)).0 e)
 
   alike_refl : (j k : K) → j ≡ k → alike bytes j k ≡ true
-  alike_refl j k e = subst (λ x. same_bytes (bytes j) (bytes x) ≡ true) e (same_refl (bytes j))
+  alike_refl j k e = (bytes_eq-Decides (bytes j) (bytes k)).1 (ap bytes e)
 
   cases_key : (j k : K) → (j ≡ k) ⊎ (j ≡ k → ⊥)
   cases_key j k = ⊎_elim (λ (t : alike bytes j k ≡ true). inl (alike_true j k t)) (λ (f : alike bytes j k ≡ false). inr (λ e. no (sym (alike_refl j k e) ∙ f))) (cases_Bool (alike bytes j k))
@@ -77,77 +65,82 @@ module _ {K M : Type 0} (bytes : K → List ℕ) (told : (j k : K) → bytes j �
       go false (Some n) l = omega arith
       go false None l = omega arith
 
+-- that a row was found, whichever
+abbrev pub unit_of : Result ℕ Unplaced → Result (Unit {0}) Unplaced
+unit_of (Ok _) = Ok tt
+unit_of (Err e) = Err e
+
+-- over every kind of key and meter; keys with equal bytes are equal
+module _ {K M : Type 0} {kind : keys.Ghosts K} {eq : comparing.Ghosts K} (told : (j k : K) → kind.bytes j ≡ kind.bytes k → j ≡ k) where
   -- a table with the same rows is the same map
-  pub same_mapped : (t u : FlowTable K M) (es : List (Entry K M)) → Mapped bytes t es → rows_of u ≡ rows_of t → u.heads ≡ t.heads → u.used ≡ t.used → Mapped bytes u es
-  same_mapped t u es a p q r =
+  pub same_mapped : (t u : FlowTable K M kind eq) (es : List (Entry K M)) → Mapped t es → Same t u → Mapped u es
+  same_mapped t u es a (p, q, r) =
       record {
-        whole = rw (p, q, r) a.whole;
         count = r ∙ a.count;
         to = λ k m h. a.to k m (rw (p, r) at h);
         from = λ k m h. rw (p, r) (a.from k m h);
       }
 
-  module _ (t : FlowTable K M) (es : List (Entry K M)) (a : Mapped bytes t es) (k : K) where
-    -- the row that was found has the meter of the map
-    pub found_meter : (i : ℕ) (m : M) → RowOf t i k → ((r : Row K M) → At (rows_of t) i r → m ≡ r.meter) → Some m ≡ lookup bytes es k
-    found_meter i m row is = sym (a.to k m (i, row.1.0, row.0, row.1.1, row.1.2, sym (is row.1.0 row.1.1)))
-
-    none_by : (r : Option M) → lookup bytes es k ≡ r → Missing t k → None ≡ r
+  module _ (t : FlowTable K M kind eq) (es : List (Entry K M)) (a : Mapped t es) (k : K) where
+    none_by : (r : Option M) → lookup kind.bytes es k ≡ r → Missing t k → None ≡ r
     none_by None e gone = refl
     none_by (Some m) e gone = let h = a.from k m e in absurd (gone h.0 h.2 (h.1, h.3, h.4))
 
-    pub missing_none : Missing t k → None ≡ lookup bytes es k
-    missing_none gone = none_by (lookup bytes es k) refl gone
+    pub missing_none : Missing t k → None ≡ lookup kind.bytes es k
+    missing_none gone = none_by (lookup kind.bytes es k) refl gone
 
-    pub row_held : (i : ℕ) → RowOf t i k → (m : M) × (lookup bytes es k ≡ Some m)
+    pub row_held : (i : ℕ) → RowOf t i k → (m : M) × (lookup kind.bytes es k ≡ Some m)
     row_held i row = (row.1.0.meter, a.to k row.1.0.meter (i, row.1.0, row.0, row.1.1, row.1.2, refl))
 
     -- what is put in the table is put in the map
-    pub put_mapped : (u : FlowTable K M) (m : M) → Whole (λ x. chain_of (bytes x)) u → Puts t u k m → u.used ≡ grown (lookup bytes es k) (length es) → Mapped bytes u (put bytes es k m)
-    put_mapped u m whole p count =
+    pub put_mapped : (u : FlowTable K M kind eq) (m : M) → Puts t u k m → u.used ≡ grown kind.bytes told (lookup kind.bytes es k) (length es) → Mapped u (put kind.bytes es k m)
+    put_mapped u m p count =
         record {
-          whole = whole;
-          count = count ∙ sym (length_put es k m);
+          count = count ∙ sym (length_put kind.bytes told es k m);
           to = λ j n h. ⊎_elim
-              (λ (e : j ≡ k). subst (λ x. lookup bytes (put bytes es k m) x ≡ Some n) (sym e) (lookup_put_same es k m ∙ ap Some (sym (p.only n (subst (λ x. Held u x n) e h)))))
-              (λ ne. lookup_put_other es k m j ne ∙ a.to j n (p.nomore j n ne h))
-              (cases_key bytes told j k);
+              (λ (e : j ≡ k). subst (λ x. lookup kind.bytes (put kind.bytes es k m) x ≡ Some n) (sym e) (lookup_put_same kind.bytes told es k m ∙ ap Some (sym (p.only n (subst (λ x. Held u x n) e h)))))
+              (λ ne. lookup_put_other kind.bytes told es k m j ne ∙ a.to j n (p.nomore j n ne h))
+              (cases_key kind.bytes told j k);
           from = λ j n h. ⊎_elim
-              (λ (e : j ≡ k). let same : ◌≡◌ {A = Option M} (Some m) (Some n) = sym (lookup_put_same es k m) ∙ subst (λ x. lookup bytes (put bytes es k m) x ≡ Some n) e h in
+              (λ (e : j ≡ k). let same : ◌≡◌ {A = Option M} (Some m) (Some n) = sym (lookup_put_same kind.bytes told es k m) ∙ subst (λ x. lookup kind.bytes (put kind.bytes es k m) x ≡ Some n) e h in
               let q : m ≡ n = cc in subst (λ x. Held u x n) (sym e) (subst (λ x. Held u k x) q p.held))
-              (λ ne. p.kept j n ne (a.from j n (sym (lookup_put_other es k m j ne) ∙ h)))
-              (cases_key bytes told j k);
+              (λ ne. p.kept j n ne (a.from j n (sym (lookup_put_other kind.bytes told es k m j ne) ∙ h)))
+              (cases_key kind.bytes told j k);
         }
 
-    pub read_is : (i : ℕ) (r : Option M) → RowOf t i k → Read t i r → r ≡ lookup bytes es k
-    read_is i (Some m) row h = found_meter i m row h.1
-    read_is i None row h = absurd (⊎_elim (λ (l : t.used ≤ i). omega (arith, row.0)) (λ (l : length (rows_of t) ≤ i). omega (arith, row.0, a.whole.room)) h)
+    -- the row that was found has the meter of the map
+    pub read_is : (i : ℕ) (r : Option M) → RowOf t i k → Read t i r → r ≡ lookup kind.bytes es k
+    read_is i (Some m) row h = sym (a.to k m (i, row.1.0, row.0, row.1.1, row.1.2, sym (h.1 row.1.0 row.1.1)))
+    read_is i None row h = absurd (omega (arith, row.0))
 
-    abbrev Answers : FlowTable K M → M → Bool → Type 0
-    Answers u m b = (b ≡ fits bytes (length (rows_of t)) es k) × Mapped bytes u (cond b (put bytes es k m) es)
+    abbrev Answers : FlowTable K M kind eq → M → Result (Unit {0}) Unplaced → Type 0
+    Answers u m r = let room = fits kind.bytes (length (rows_of t)) es k in (r ≡ placed room) × Mapped u (cond room (put kind.bytes es k m) es)
+
+    answers_by : (u : FlowTable K M kind eq) (m : M) (b : Bool) → fits kind.bytes (length (rows_of t)) es k ≡ b → Mapped u (cond b (put kind.bytes es k m) es) → Answers u m (placed b)
+    answers_by u m b e h = subst (λ v. (placed b ≡ placed v) × Mapped u (cond v (put kind.bytes es k m) es)) (sym e) (refl, h)
 
     -- the meter of the key's row is replaced
-    pub set_mapped : (u : FlowTable K M) (i : ℕ) (m : M) (b : Bool) → RowOf t i k → Replaces (λ x. chain_of (bytes x)) t u i m b → Answers u m b
-    set_mapped u i m true row h =
-        let held = row_held i row in (
-          sym (ap (λ l. is_some l || ltb (length es) (length (rows_of t))) held.1),
-          put_mapped u m h.1 (h.4 k row) (h.2 ∙ a.count ∙ sym (ap (λ l. grown l (length es)) held.1)),
-        )
-    set_mapped u i m false row h = absurd (omega (arith, h.0, row.0))
+    pub set_mapped : (u : FlowTable K M kind eq) (i : ℕ) (m : M) (r : Option (Unit {0})) → RowOf t i k → Replaces t u i m r → Answers u m (ok_or r Full)
+    set_mapped u i m (Some _) row h =
+        let held = row_held i row in
+        answers_by u m true
+        (ap (λ l. is_some l || ltb (length es) (length (rows_of t))) held.1)
+        (put_mapped u m (h.3 k row) (h.1 ∙ a.count ∙ sym (ap (λ l. grown kind.bytes told l (length es)) held.1)))
+    set_mapped u i m None row h = absurd (omega (arith, h.0, row.0))
 
     -- the key gets a row, or there is none
-    pub insert_mapped : (u : FlowTable K M) (m : M) (r : Result ℕ Unplaced) → Missing t k → Places (λ x. chain_of (bytes x)) t u k m r → Answers u m (is_ok r)
+    pub insert_mapped : (u : FlowTable K M kind eq) (m : M) (r : Result ℕ Unplaced) → Missing t k → Places t u k m r → Answers u m (unit_of r)
     insert_mapped u m (Ok i) gone h =
-        let none = missing_none gone in (
-          sym (ap (λ l. is_some l || ltb (length es) (length (rows_of t))) (sym none) ∙ lt-ltb (length es) (length (rows_of t)) (omega (arith, h.1, a.count))),
-          put_mapped u m h.3 h.4 (h.2 ∙ ap (λ x. x + 1) a.count ∙ ap (λ l. grown l (length es)) none),
-        )
+        let none = missing_none gone in
+        answers_by u m true
+        (ap (λ l. is_some l || ltb (length es) (length (rows_of t))) (sym none) ∙ lt-ltb (length es) (length (rows_of t)) (omega (arith, h.1, a.count)))
+        (put_mapped u m h.3 (h.2 ∙ ap (λ x. x + 1) a.count ∙ ap (λ l. grown kind.bytes told l (length es)) none))
     insert_mapped u m (Err Unplaced.Held) gone h = absurd (gone h.0.0 h.0.1.0 h.0.1.1)
     insert_mapped u m (Err Unplaced.Full) gone h =
-        let none = missing_none gone in (
-          sym (ap (λ l. is_some l || ltb (length es) (length (rows_of t))) (sym none) ∙ le-ltb (length es) (length (rows_of t)) (omega (arith, h.1, a.count))),
-          same_mapped t u es a h.2.0 h.2.1 h.2.2,
-        )
+        let none = missing_none gone in
+        answers_by u m false
+        (ap (λ l. is_some l || ltb (length es) (length (rows_of t))) (sym none) ∙ le-ltb (length es) (length (rows_of t)) (omega (arith, h.1, a.count)))
+        (same_mapped t u es a h.2)
 
 -- one call more, at i
 module _ {K M : Type 0} (bytes : K → List ℕ) (rows : ℕ) (es : List (Entry K M)) (cs : List (Call K M)) (i : ℕ) (c : Call K M) (h : i < length cs) (is : c ≡ get_or cs i c) where

@@ -1,4 +1,4 @@
--- Keys: which chain one belongs to, and whether two are the same.
+-- Keys: which chain one belongs to.
 -- chain_count: how many chains there are; chain_of: the chain of a key with these bytes
 -- Assumes nothing.
 use Rattle.std.specs.Prelude.{ℕ, ◌%◌, List, fold, bit_xor}

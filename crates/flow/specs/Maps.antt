@@ -1,25 +1,24 @@
 -- A table as a map from keys to meters, with a bounded number of keys.
--- same_bytes, alike: whether two keys have the same bytes
+-- alike: whether two keys have the same bytes
 -- Entry: a key and its meter; lookup: the meter of a key; put: a key's meter put
 -- Mapped: a table holds for each key what the entries have, in as many rows as there are entries
--- fits: whether there is room for a key; reply_to, after_call: what a call on the map answers, and leaves
+-- fits: whether there is room for a key; placed: what placing it answers
+-- reply_to, after_call: what a call on the map answers, and leaves
 -- replies, after_all: the same for a list of calls
 -- Served: what a run over a list of calls answers and leaves
 -- Assumes nothing.
-use Rattle.std.specs.Prelude.{◌≡◌, ℕ, Bool, true, false, cond, ◌&&◌, ◌||◌, List, [], ◌∷◌, length, is_some, Some, None, Option, ◌==◌, nat_lt}
+use Rattle.std.specs.Prelude.{◌≡◌, ℕ, Bool, cond, ◌||◌, List, [], ◌∷◌, length, is_some, Some, None, Ok, Err, Option, Result, nat_lt}
+use Rattle.std.specs.Str.{bytes_eq}
+use Rattle.std.specs.declared.cmp.PartialEq as comparing
+use Rattle.flow.specs.declared.key.Key as keys
 use Rattle.flow.specs.declared.row.Call.{Call}
 use Rattle.flow.specs.declared.row.Call.TheVariants.{Look, Place}
 use Rattle.flow.specs.declared.row.Reply.{Reply}
-use Rattle.flow.specs.declared.row.Reply.TheVariants.{Meter, Nothing, Placed, NoRoom}
+use Rattle.flow.specs.declared.row.Reply.TheVariants.{Looked, Placed}
+use Rattle.flow.specs.declared.row.Unplaced.{Unplaced}
+use Rattle.flow.specs.declared.row.Unplaced.TheVariants.{Full}
 use Rattle.flow.specs.declared.table.FlowTable.{FlowTable}
-use Rattle.flow.specs.Keys.{chain_of}
-use Rattle.flow.specs.Tables.{rows_of, Whole, Held}
-
-abbrev pub same_bytes : List ℕ → List ℕ → Bool
-same_bytes [] [] = true
-same_bytes [] (y ∷ ys) = false
-same_bytes (x ∷ xs) [] = false
-same_bytes (x ∷ xs) (y ∷ ys) = x == y && same_bytes xs ys
+use Rattle.flow.specs.Tables.{rows_of, Held}
 
 pub record Entry (K M : Type 0) : Type 0 where
   pub key : K
@@ -28,14 +27,13 @@ pub record Entry (K M : Type 0) : Type 0 where
 abbrev pub entry : {K M : Type 0} → K → M → Entry K M
 entry k m = record { key = k; meter = m }
 
--- what a look-up replies
-abbrev pub told : {M : Type 0} → Option M → Reply M
-told (Some m) = Meter m
-told None = Nothing
-
 -- equal keys are those with equal bytes
 abbrev pub alike : {K : Type 0} → (K → List ℕ) → K → K → Bool
-alike bytes j k = same_bytes (bytes j) (bytes k)
+alike bytes j k = bytes_eq (bytes j) (bytes k)
+
+-- a key gets its meter, or finds every row in use
+abbrev pub placed : Bool → Result (Unit {0}) Unplaced
+placed room = cond room (Ok tt) (Err Full)
 
 -- over every kind of key, by its bytes
 module _ {K M : Type 0} (bytes : K → List ℕ) where
@@ -47,19 +45,13 @@ module _ {K M : Type 0} (bytes : K → List ℕ) where
   put [] k m = entry k m ∷ []
   put (e ∷ es) k m = cond (alike bytes e.key k) (entry e.key m ∷ es) (e ∷ put es k m)
 
-  pub record Mapped (t : FlowTable K M) (es : List (Entry K M)) : Type 0 where
-    pub whole : Whole (λ k. chain_of (bytes k)) t
-    pub count : t.used ≡ length es
-    pub to : (k : K) (m : M) → Held t k m → lookup es k ≡ Some m
-    pub from : (k : K) (m : M) → lookup es k ≡ Some m → Held t k m
-
   -- a key that is held has room, and any key while there are fewer than there are rows
   abbrev pub fits : ℕ → List (Entry K M) → K → Bool
   fits rows es k = is_some (lookup es k) || nat_lt (length es) rows
 
   abbrev pub reply_to : ℕ → List (Entry K M) → Call K M → Reply M
-  reply_to rows es (Look k) = told (lookup es k)
-  reply_to rows es (Place k m) = cond (fits rows es k) Placed NoRoom
+  reply_to rows es (Look k) = Looked (lookup es k)
+  reply_to rows es (Place k m) = Placed (placed (fits rows es k))
 
   abbrev pub after_call : ℕ → List (Entry K M) → Call K M → List (Entry K M)
   after_call rows es (Look k) = es
@@ -73,8 +65,15 @@ module _ {K M : Type 0} (bytes : K → List ℕ) where
   after_all rows es [] = es
   after_all rows es (c ∷ cs) = after_all rows (after_call rows es c) cs
 
+-- over every kind of key and meter
+module _ {K M : Type 0} {kind : keys.Ghosts K} {eq : comparing.Ghosts K} where
+  pub record Mapped (t : FlowTable K M kind eq) (es : List (Entry K M)) : Type 0 where
+    pub count : t.used ≡ length es
+    pub to : (k : K) (m : M) → Held t k m → lookup kind.bytes es k ≡ Some m
+    pub from : (k : K) (m : M) → lookup kind.bytes es k ≡ Some m → Held t k m
+
   -- whatever map the table was, the replies are the map's, and the table is the map that the calls leave
-  abbrev pub Served : FlowTable K M → FlowTable K M → List (Call K M) → List (Reply M) → Type 0
+  abbrev pub Served : FlowTable K M kind eq → FlowTable K M kind eq → List (Call K M) → List (Reply M) → Type 0
   Served t u cs rs =
       (es : List (Entry K M)) → Mapped t es →
-      (rs ≡ replies (length (rows_of t)) es cs) × Mapped u (after_all (length (rows_of t)) es cs)
+      (rs ≡ replies kind.bytes (length (rows_of t)) es cs) × Mapped u (after_all kind.bytes (length (rows_of t)) es cs)

@@ -5,32 +5,26 @@ ghost use Rattle.flow.specs.Keys.{chain_of};
 // How many chains a table has.
 pub const CHAINS: usize = 64;
 
-pub trait Key: Sized {
+pub trait Key: Sized + PartialEq {
+    // The number of bytes, and the bytes.
     const LEN: usize;
 
-    // The number of bytes, and the bytes.
-    ghost size: { ℕ };
+    ghost LEN: { ℕ };
 
     ghost bytes: { Self → List ℕ };
 
-    // LEN, as the proofs know it.
-    fn count(&self) -> usize
-        ensures number { result ≡ size }
-        ensures whole { length (bytes self.now) ≡ size };
-
     // The byte at a place, and 0 past the last.
     fn byte(&self, i: usize) -> u8
-        ensures { result ≡ slice_index (bytes self.now) i };
-
-    fn same(&self, other: &Self) -> bool
-        ensures { Decides result (self.now ≡ other.now) };
+        ensures value { result ≡ slice_index (bytes self.now) i }
+        ensures whole { length (bytes self.now) ≡ LEN };
 
     // Which chain the key belongs to: the exclusive or of its bytes, its low six bits.
     fn chain(&self) -> usize
         ensures { result ≡ chain_of (bytes self.now) }
     {
-        let mut all: u8 = 0;
-        for i in 0..self.count() {
+        // A loop and no fold: tried, and a closure that calls `byte` hands no equation on.
+        let mut all = self.byte(0);
+        for i in 1..Self::LEN {
             all ^= self.byte(i);
         }
         usize::from(all) % CHAINS
@@ -38,4 +32,7 @@ pub trait Key: Sized {
 
     // Keys with equal bytes are equal.
     ghost told: { (j k : Self) → bytes j ≡ bytes k → j ≡ k };
+
+    // The comparison finds just the equal ones.
+    ghost compared: { (j k : Self) → Decides (Self.eq j k) (j ≡ k) };
 }

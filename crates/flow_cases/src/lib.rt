@@ -32,14 +32,12 @@ mod tests {
         assert_eq!(rt; a.chain(), 1);
         assert_eq!(rt; b.chain(), 1);
         assert_eq!(rt; c.chain(), 1);
-        let Ok(mut table) = FlowTable::new(&mut rows) else {
-            return Err(Fail::new("refused"));
-        };
+        let mut table = FlowTable::new(&mut rows)?;
         assert_eq!(rt; table.get(&a), None);
-        assert_eq!(rt; table.put(a, 10), true);
-        assert_eq!(rt; table.put(b, 20), true);
-        assert_eq!(rt; table.put(c, 30), true);
-        assert_eq!(rt; table.put(b, 21), true);
+        assert_eq!(rt; table.put(a, 10), Ok(()));
+        assert_eq!(rt; table.put(b, 20), Ok(()));
+        assert_eq!(rt; table.put(c, 30), Ok(()));
+        assert_eq!(rt; table.put(b, 21), Ok(()));
         assert_eq!(rt; table.get(&a), Some(10));
         assert_eq!(rt; table.get(&b), Some(21));
         assert_eq!(rt; table.get(&c), Some(30));
@@ -50,16 +48,14 @@ mod tests {
     #[test]
     fn full_rows(rt: HostRuntime) -> Result<(), Fail> {
         let mut rows = [row(station(0, 0)); 2];
-        let Ok(mut table) = FlowTable::new(&mut rows) else {
-            return Err(Fail::new("refused"));
-        };
+        let mut table = FlowTable::new(&mut rows)?;
         assert_eq!(rt; table.insert(station(0, 1), 1).is_ok(), true);
         assert_eq!(rt; table.insert(station(0, 1), 2), Err(Unplaced::Held));
         assert_eq!(rt; table.insert(station(0, 2), 3).is_ok(), true);
         assert_eq!(rt; table.insert(station(0, 3), 4), Err(Unplaced::Full));
-        assert_eq!(rt; table.put(station(0, 3), 4), false);
-        assert_eq!(rt; table.put(station(0, 2), 5), true);
-        assert_eq!(rt; table.set(2, 9), false);
+        assert_eq!(rt; table.put(station(0, 3), 4), Err(Unplaced::Full));
+        assert_eq!(rt; table.put(station(0, 2), 5), Ok(()));
+        assert_eq!(rt; table.set(2, 9), None);
         assert_eq!(rt; table.meter(2), None);
         assert_eq!(rt; table.get(&station(0, 1)), Some(1));
         assert_eq!(rt; table.get(&station(0, 2)), Some(5));
@@ -93,9 +89,7 @@ mod tests {
     #[test]
     fn beside_a_map(rt: HostRuntime) -> Result<(), Fail> {
         let mut rows = [row(station(0, 0)); 128];
-        let Ok(mut table) = FlowTable::new(&mut rows) else {
-            return Err(Fail::new("refused"));
-        };
+        let mut table = FlowTable::new(&mut rows)?;
         let mut map = BTreeMap::new(rt.alloc());
         let mut seed: u32 = 1;
         for _ in 0..5_000 {
@@ -105,7 +99,7 @@ mod tests {
             assert_eq!(rt; table.get(&key), map.get(&n).copied());
             if seed / 0x100_0000 % 2 == 0 {
                 let room = map.contains_key(&n) || map.len() < 128;
-                assert_eq!(rt; table.put(key, seed), room);
+                assert_eq!(rt; table.put(key, seed).is_ok(), room);
                 if room {
                     map.insert(n, seed)?;
                 }

@@ -11,9 +11,7 @@ use Rattle.meter.proofs.Fill.{fill_later, fill_charge}
 use Rattle.meter.proofs.Held.{windows_hold, admitted_none, admitted_push}
 use Rattle.history.specs.declared.answers.Refusal.{Refusal}
 use Rattle.history.specs.declared.answers.Refusal.TheVariants.{Backward, TableFull}
-use Rattle.history.specs.declared.answers.Answer.{Answer}
-use Rattle.history.specs.declared.answers.Answer.TheVariants.{Carried, Refused}
-use Rattle.history.specs.Answers.{is_green, carried_green}
+use Rattle.history.specs.Answers.{Answer, is_green, carried_green}
 use Rattle.history.specs.Histories.{Config, Flow, Offer, Entry, History, entry_of, clock_of, charges_of, counts, counts_green, fill_if, green_fill, meter_fits, on_node, on_flow, key_in, key_of, is_key, nodes_of, node_terms, flow_terms, fits_for, over_for, answer_for, answer_of, LawfulFrom, Lawful}
 use Rattle.history.specs.Windows.{green_windows, MeterWindows, WindowLaw}
 use Rattle.history.proofs.Keys.{alike_decides}
@@ -29,10 +27,10 @@ module _ (p : Entry → Bool) (w : Terms) (rate depth : ℕ) where
   Low h = Admitted rate depth (charges_of p w h) × (fill rate (charges_of p w h) (clock_of h) ≤ depth)
 
   low_step : (h : History) (o : Offer) (a : Answer) → Timely h o a → By (clock_of h) (charges_of p w h) → Low h →
-      ((c : Colour) → a ≡ Carried c → p (entry_of o a) ≡ true → fill rate (charges_of p w h) o.moment + cost w o.size ≤ depth) → Low (h ++ (entry_of o a ∷ []))
-  low_step h o (Carried c) ti by low fits =
+      ((c : Colour) → a ≡ Ok c → p (entry_of o a) ≡ true → fill rate (charges_of p w h) o.moment + cost w o.size ≤ depth) → Low (h ++ (entry_of o a ∷ []))
+  low_step h o (Ok c) ti by low fits =
       let l = charges_of p w h in
-      let e = entry_of o (Carried c) in
+      let e = entry_of o (Ok c) in
       let n = cond (p e) (cost w o.size) 0 in
       let new : Charge = charge_of o.moment n in
       let under : fill rate l o.moment + n ≤ depth =
@@ -44,12 +42,12 @@ module _ (p : Entry → Bool) (w : Terms) (rate depth : ℕ) where
         subst (Admitted rate depth) (sym (charges_snoc p w h e)) (admitted_push rate depth l new low.0 under),
         subst (λ v. fill rate v (clock_of (h ++ (e ∷ []))) ≤ depth) (sym (charges_snoc p w h e)) (subst (λ t. fill rate (l ++ (new ∷ [])) t ≤ depth) (sym (clock_snoc 0 h e)) top),
       )
-  low_step h o (Refused e) ti by low fits =
+  low_step h o (Err e) ti by low fits =
       let same = charges_none p w h o e in
-      (subst (Admitted rate depth) (sym same) low.0, subst (λ l. fill rate l (clock_of (h ++ (entry_of o (Refused e) ∷ []))) ≤ depth) (sym same) (low_later h _ (clock_rises h o (Refused e) ti) by low.1))
+      (subst (Admitted rate depth) (sym same) low.0, subst (λ l. fill rate l (clock_of (h ++ (entry_of o (Err e) ∷ []))) ≤ depth) (sym same) (low_later h _ (clock_rises h o (Err e) ti) by low.1))
 
   module _ (g : Config) (whole : History)
-      (fits : (before : History) (e : Entry) → e.answer ≡ answer_of g before e.offer → (c : Colour) → e.answer ≡ Carried c → p e ≡ true → fill rate (charges_of p w before) e.offer.moment + cost w e.offer.size ≤ depth) where
+      (fits : (before : History) (e : Entry) → e.answer ≡ answer_of g before e.offer → (c : Colour) → e.answer ≡ Ok c → p e ≡ true → fill rate (charges_of p w before) e.offer.moment + cost w e.offer.size ≤ depth) where
     go : (before rest : History) → whole ≡ before ++ rest → LawfulFrom g before rest → By (clock_of before) (charges_of p w before) → Low before → Admitted rate depth (charges_of p w whole)
     go before [] e l by low = subst (λ v. Admitted rate depth (charges_of p w v)) (sym (e ∙ append-nil before)) low.0
     go before (x ∷ rest) e l by low =
@@ -66,30 +64,30 @@ fits_all w fa fg n Yellow e = leb-true _ _ (and_parts _ _ e).0
 
 green_only : (c : Colour) → is_green c ≡ true → c ≡ Green
 green_only Green e = refl
-green_only Yellow e = let x : ◌≡◌ {A = ℕ} 0 1 = cc in absurd (omega arith)
+green_only Yellow e = cc
 
-carried_judged : (b : Bool) (j : Answer) (c : Colour) → cond b (Refused TableFull) j ≡ Carried c → j ≡ Carried c
+carried_judged : (b : Bool) (j : Answer) (c : Colour) → cond b (Err TableFull) j ≡ Ok c → j ≡ Ok c
 carried_judged true j c e = cc
 carried_judged false j c e = e
 
-back_not : (b : Bool) (j : Answer) (c : Colour) → cond b (Refused Backward) j ≡ Carried c → j ≡ Carried c
+back_not : (b : Bool) (j : Answer) (c : Colour) → cond b (Err Backward) j ≡ Ok c → j ≡ Ok c
 back_not true j c e = cc
 back_not false j c e = e
 
 -- a carried record has a flow, and fits every meter of its path
-pub carried_fits : (g : Config) (h : History) (o : Offer) (c : Colour) → answer_of g h o ≡ Carried c →
+pub carried_fits : (g : Config) (h : History) (o : Offer) (c : Colour) → answer_of g h o ≡ Ok c →
     (f : Flow) × (o.flow ≡ Ok f) × (fits_for g h o f.key c 0 ≡ true) × ((j : ℕ) → on_node g j o ≡ true → fits_for g h o f.key c j ≡ true)
 carried_fits g h o c e = go o.flow refl (back_not (ltb o.moment (clock_of h)) _ c e)
   where
-    go : (r : Result Flow Refusal) → o.flow ≡ r → answer_for g h o r ≡ Carried c → (f : Flow) × (o.flow ≡ Ok f) × (fits_for g h o f.key c 0 ≡ true) × ((j : ℕ) → on_node g j o ≡ true → fits_for g h o f.key c j ≡ true)
-    go (Err x) is car = let z : ◌≡◌ {A = ℕ} 0 1 = cc in absurd (omega arith)
+    go : (r : Result Flow Refusal) → o.flow ≡ r → answer_for g h o r ≡ Ok c → (f : Flow) × (o.flow ≡ Ok f) × (fits_for g h o f.key c 0 ≡ true) × ((j : ℕ) → on_node g j o ≡ true → fits_for g h o f.key c j ≡ true)
+    go (Err x) is car = cc
     go (Ok f) is car =
         let fit = judged_fits (fits_for g h o f.key) (over_for g h o f.key) f.arrival c (0 ∷ nodes_of g o) (carried_judged _ _ c car) in
         let s = and_parts _ _ fit in
         (f, is, s.0, λ j on. all_among (fits_for g h o f.key c) (nodes_of g o) j s.1 on)
 
 module _ (g : Config) (whole : History) (lawful : Lawful g whole) (w : Terms) (on : Offer → Bool)
-    (met : (before : History) (o : Offer) (c : Colour) → answer_of g before o ≡ Carried c → on o ≡ true → meter_fits w on before o c ≡ true) where
+    (met : (before : History) (o : Offer) (c : Colour) → answer_of g before o ≡ Ok c → on o ≡ true → meter_fits w on before o c ≡ true) where
   green_law : (b : Option Limit) → w.green ≡ b → green_windows b w on whole
   green_law None e = tt
   green_law (Some l) e =

@@ -1,5 +1,5 @@
 -- A history with one more entry: its clock, its charges, its keys. Assumes nothing.
-use Rattle.std.proofs.Common.{◌≡◌, ℕ, ◌+◌, ◌<◌, ◌≤◌, Bool, true, false, cond, List, [], ◌∷◌, ◌++◌, Some, None, Option, sym, refl, ap, ◌∙◌, ⊎_elim, append_assoc, append-nil, le_trans, le_refl, arith}
+use Rattle.std.proofs.Common.{◌≡◌, ℕ, ◌+◌, ◌<◌, ◌≤◌, Bool, true, false, cond, List, [], ◌∷◌, ◌++◌, Some, None, Option, sym, refl, ap, ◌∙◌, ⊎_elim, append_assoc, append-nil, le_trans, le_refl, arith, Ok, Err}
 use Rattle.std.proofs.lemmas.Bool.{cases_lt, lt-ltb, le-ltb}
 use Rattle.meter.specs.declared.measures.Colour.{Colour}
 use Rattle.meter.specs.declared.measures.Terms.{Terms}
@@ -8,9 +8,7 @@ use Rattle.meter.specs.Windows.{Charge, charge_of, By}
 use Rattle.packet.specs.declared.kinds.Key.{Key}
 use Rattle.history.specs.declared.answers.Refusal.{Refusal}
 use Rattle.history.specs.declared.answers.Refusal.TheVariants.{Backward}
-use Rattle.history.specs.declared.answers.Answer.{Answer}
-use Rattle.history.specs.declared.answers.Answer.TheVariants.{Carried, Refused}
-use Rattle.history.specs.Answers.{is_carried, went_back}
+use Rattle.history.specs.Answers.{Answer, is_carried, went_back}
 use Rattle.history.specs.Histories.{Config, Offer, Entry, History, entry_of, clock_from, clock_of, charges_of, alike, same_kind, is_key, key_of, carried_of, carried_key, new_key, keys_like, answer_for, answer_of, LawfulFrom, Lawful}
 use Rattle.history.proofs.Keys.{alike_decides, alike_sym}
 
@@ -46,25 +44,25 @@ clock_rises h o a timely = rw (clock_snoc 0 h (entry_of o a)) (go (went_back a) 
     go false f = f refl
 
 -- what is refused is not charged
-pub charges_none : (p : Entry → Bool) (w : Terms) (h : History) (o : Offer) (e : Refusal) → charges_of p w (h ++ (entry_of o (Refused e) ∷ [])) ≡ charges_of p w h
-charges_none p w h o e = charges_snoc p w h (entry_of o (Refused e)) ∙ append-nil (charges_of p w h)
+pub charges_none : (p : Entry → Bool) (w : Terms) (h : History) (o : Offer) (e : Refusal) → charges_of p w (h ++ (entry_of o (Err e) ∷ [])) ≡ charges_of p w h
+charges_none p w h o e = charges_snoc p w h (entry_of o (Err e)) ∙ append-nil (charges_of p w h)
 
 pub by_step : (p : Entry → Bool) (w : Terms) (h : History) (o : Offer) (a : Answer) → Timely h o a → By (clock_of h) (charges_of p w h) → By (clock_of (h ++ (entry_of o a ∷ []))) (charges_of p w (h ++ (entry_of o a ∷ [])))
-by_step p w h o (Carried c) timely b =
-    rw (clock_snoc 0 h (entry_of o (Carried c)), charges_snoc p w h (entry_of o (Carried c)))
-    (by_push (clock_of h) (charges_of p w h) (charge_of o.moment (cond (p (entry_of o (Carried c))) (cost w o.size) 0)) (timely refl) b)
-by_step p w h o (Refused e) timely b = rw (charges_none p w h o e) (by_later (clock_of h) _ (charges_of p w h) (clock_rises h o (Refused e) timely) b)
+by_step p w h o (Ok c) timely b =
+    rw (clock_snoc 0 h (entry_of o (Ok c)), charges_snoc p w h (entry_of o (Ok c)))
+    (by_push (clock_of h) (charges_of p w h) (charge_of o.moment (cond (p (entry_of o (Ok c))) (cost w o.size) 0)) (timely refl) b)
+by_step p w h o (Err e) timely b = rw (charges_none p w h o e) (by_later (clock_of h) _ (charges_of p w h) (clock_rises h o (Err e) timely) b)
 
-pub answer_back : (g : Config) (h : History) (o : Offer) → o.moment < clock_of h → answer_of g h o ≡ Refused Backward
-answer_back g h o lt = ap (λ b. cond b (Refused Backward) (answer_for g h o o.flow)) (lt-ltb o.moment (clock_of h) lt)
+pub answer_back : (g : Config) (h : History) (o : Offer) → o.moment < clock_of h → answer_of g h o ≡ Err Backward
+answer_back g h o lt = ap (λ b. cond b (Err Backward) (answer_for g h o o.flow)) (lt-ltb o.moment (clock_of h) lt)
 
 pub answer_on : (g : Config) (h : History) (o : Offer) → clock_of h ≤ o.moment → answer_of g h o ≡ answer_for g h o o.flow
-answer_on g h o le = ap (λ b. cond b (Refused Backward) (answer_for g h o o.flow)) (le-ltb o.moment (clock_of h) le)
+answer_on g h o le = ap (λ b. cond b (Err Backward) (answer_for g h o o.flow)) (le-ltb o.moment (clock_of h) le)
 
 pub timely : (g : Config) (h : History) (o : Offer) (a : Answer) → a ≡ answer_of g h o → Timely h o a
 timely g h o a e n =
     ⊎_elim
-    (λ lt. let z : a ≡ Refused Backward = e ∙ answer_back g h o lt in let y : true ≡ false = sym (ap went_back z) ∙ n in let x : ◌≡◌ {A = ℕ} 0 1 = cc in absurd (omega arith))
+    (λ lt. let z : a ≡ Err Backward = e ∙ answer_back g h o lt in let y : true ≡ false = sym (ap went_back z) ∙ n in cc)
     (λ le. le)
     (cases_lt o.moment (clock_of h))
 
@@ -87,27 +85,27 @@ lawful_snoc g h o a l e = lawful_more g [] h (entry_of o a) l e
 
 -- keys
 
-pub key_none : (h : History) (o : Offer) (e : Refusal) (k : Key) → carried_key (h ++ (entry_of o (Refused e) ∷ [])) k ≡ carried_key h k
+pub key_none : (h : History) (o : Offer) (e : Refusal) (k : Key) → carried_key (h ++ (entry_of o (Err e) ∷ [])) k ≡ carried_key h k
 key_none [] o e k = refl
 key_none (x ∷ h) o e k = ap (λ v. cond (is_key k (carried_of x)) true v) (key_none h o e k)
 
-pub key_some : (h : History) (o : Offer) (c : Colour) (k : Key) → carried_key (h ++ (entry_of o (Carried c) ∷ [])) k ≡ cond (carried_key h k) true (is_key k (key_of o))
+pub key_some : (h : History) (o : Offer) (c : Colour) (k : Key) → carried_key (h ++ (entry_of o (Ok c) ∷ [])) k ≡ cond (carried_key h k) true (is_key k (key_of o))
 key_some [] o c k = elim (is_key k (key_of o)) as (λ b. cond b true false ≡ b) [ true ↦ refl | false ↦ refl ]
 key_some (x ∷ h) o c k =
     let more = key_some h o c k in
-    elim (is_key k (carried_of x)) as (λ b. cond b true (carried_key (h ++ (entry_of o (Carried c) ∷ [])) k) ≡ cond (cond b true (carried_key h k)) true (is_key k (key_of o)))
+    elim (is_key k (carried_of x)) as (λ b. cond b true (carried_key (h ++ (entry_of o (Ok c) ∷ [])) k) ≡ cond (cond b true (carried_key h k)) true (is_key k (key_of o)))
     [ true ↦ refl | false ↦ more ]
 
 -- how many keys
 
-new_none : (k : Key) (h : History) (o : Offer) (e : Refusal) (j : Option Key) → new_key k (h ++ (entry_of o (Refused e) ∷ [])) j ≡ new_key k h j
+new_none : (k : Key) (h : History) (o : Offer) (e : Refusal) (j : Option Key) → new_key k (h ++ (entry_of o (Err e) ∷ [])) j ≡ new_key k h j
 new_none k h o e None = refl
 new_none k h o e (Some j) = ap (λ v. cond (same_kind k j) (cond v 0 1) 0) (key_none h o e j)
 
-pub keys_none : (k : Key) (h : History) (o : Offer) (e : Refusal) → keys_like k (h ++ (entry_of o (Refused e) ∷ [])) ≡ keys_like k h
+pub keys_none : (k : Key) (h : History) (o : Offer) (e : Refusal) → keys_like k (h ++ (entry_of o (Err e) ∷ [])) ≡ keys_like k h
 keys_none k [] o e = omega arith
 keys_none k (x ∷ h) o e =
-    ap (λ v. v + keys_like k (h ++ (entry_of o (Refused e) ∷ []))) (new_none k h o e (carried_of x)) ∙ ap (λ v. new_key k h (carried_of x) + v) (keys_none k h o e)
+    ap (λ v. v + keys_like k (h ++ (entry_of o (Err e) ∷ []))) (new_none k h o e (carried_of x)) ∙ ap (λ v. new_key k h (carried_of x) + v) (keys_none k h o e)
 
 module _ (k : Key) (o : Offer) (c : Colour) (i : Key) (own : key_of o ≡ Some i) where
   -- one more key, at x's place or at the end
@@ -119,11 +117,11 @@ module _ (k : Key) (o : Offer) (c : Colour) (i : Key) (own : key_of o ≡ Some i
   counts d n true its true true v false e f q is = let z : v ≡ false = f refl in let y : true ≡ its = q refl in rw (z, sym y) (omega (arith, ap {B = ℕ} (λ b. cond b 1 0) y))
   counts d n true its false false true u e f q is = omega arith
   counts d n true its false false false u e f q is = omega arith
-  counts d n mine its true false v u e f q is = let y : ◌≡◌ {A = ℕ} 0 1 = cc in absurd (omega arith)
-  counts d n mine its false true v u e f q is = let y : ◌≡◌ {A = ℕ} 0 1 = cc in absurd (omega arith)
+  counts d n mine its true false v u e f q is = cc
+  counts d n mine its false true v u e f q is = cc
 
   abbrev after : History → History
-  after h = h ++ (entry_of o (Carried c) ∷ [])
+  after h = h ++ (entry_of o (Ok c) ∷ [])
 
   key_after : (h : History) (j : Key) → carried_key (after h) j ≡ cond (carried_key h j) true (alike i j)
   key_after h j = key_some h o c j ∙ ap (λ v. cond (carried_key h j) true (is_key j v)) own

@@ -16,9 +16,7 @@ use Rattle.meter.proofs.Keeps.{counted_terms}
 use Rattle.paths.specs.Layers.{over_in, after_charge}
 use Rattle.packet.specs.declared.kinds.Key.{Key}
 use Rattle.history.specs.declared.answers.Refusal.{Refusal}
-use Rattle.history.specs.declared.answers.Answer.{Answer}
-use Rattle.history.specs.declared.answers.Answer.TheVariants.{Carried, Refused}
-use Rattle.history.specs.Answers.{is_carried, is_green, carried_green}
+use Rattle.history.specs.Answers.{Answer, is_carried, is_green, carried_green}
 use Rattle.history.specs.Histories.{Offer, Entry, History, entry_of, clock_of, charges_of, counts, counts_green, all_fill, fill_if, green_fill, meter_fits, meter_over, on_flow, is_key, key_of, carried_by, carried_of, carried_key}
 use Rattle.history.specs.Tracks.{Tracks, Fair}
 use Rattle.history.proofs.Longer.{by_later, by_push, clock_snoc, clock_rises, charges_snoc, charges_none, Timely}
@@ -31,33 +29,33 @@ fill_then rate l t now n by le =
 
 module _ (h : History) (o : Offer) (c : Colour) (late : clock_of h ≤ o.moment) where
   abbrev longer : History
-  longer = h ++ (entry_of o (Carried c) ∷ [])
+  longer = h ++ (entry_of o (Ok c) ∷ [])
 
   now_late : (t : ℕ) → clock_of longer ≤ t → o.moment ≤ t
-  now_late t le = rw (clock_snoc 0 h (entry_of o (Carried c))) at le
+  now_late t le = rw (clock_snoc 0 h (entry_of o (Ok c))) at le
 
   clock_now : clock_of longer ≡ o.moment
-  clock_now = clock_snoc 0 h (entry_of o (Carried c))
+  clock_now = clock_snoc 0 h (entry_of o (Ok c))
 
   module _ (rate : ℕ) (w : Terms) (p : Entry → Bool) (by : By (clock_of h) (charges_of p w h)) (t : ℕ) (le : o.moment ≤ t) where
     by_now : By o.moment (charges_of p w h)
     by_now = by_later (clock_of h) o.moment (charges_of p w h) late by
 
     -- the bucket counts the record
-    bucket_in : p (entry_of o (Carried c)) ≡ true → (before : ℕ) → before ≡ fill rate (charges_of p w h) o.moment →
+    bucket_in : p (entry_of o (Ok c)) ≡ true → (before : ℕ) → before ≡ fill rate (charges_of p w h) o.moment →
         (before + cost w o.size) - rate * (t - o.moment) ≡ fill rate (charges_of p w longer) t
     bucket_in in' at is =
         ap (λ v. (v + cost w o.size) - rate * (t - o.moment)) is
         ∙ sym (fill_then rate (charges_of p w h) o.moment t (cost w o.size) by_now le)
-        ∙ sym (ap (λ l. fill rate l t) (charges_snoc p w h (entry_of o (Carried c)) ∙ ap (λ b. charges_of p w h ++ (charge_of o.moment (cond b (cost w o.size) 0) ∷ [])) in'))
+        ∙ sym (ap (λ l. fill rate l t) (charges_snoc p w h (entry_of o (Ok c)) ∙ ap (λ b. charges_of p w h ++ (charge_of o.moment (cond b (cost w o.size) 0) ∷ [])) in'))
 
     -- the bucket leaves the record out
-    bucket_out : p (entry_of o (Carried c)) ≡ false → fill rate (charges_of p w h) t ≡ fill rate (charges_of p w longer) t
+    bucket_out : p (entry_of o (Ok c)) ≡ false → fill rate (charges_of p w h) t ≡ fill rate (charges_of p w longer) t
     bucket_out out' =
         let then = fill_then rate (charges_of p w h) o.moment t 0 by_now le in
         let later = fill_later rate (charges_of p w h) o.moment t le by_now in
         let same : fill rate (charges_of p w h ++ (charge_of o.moment 0 ∷ [])) t ≡ fill rate (charges_of p w h) t = omega arith in
-        sym same ∙ sym (ap (λ l. fill rate l t) (charges_snoc p w h (entry_of o (Carried c)) ∙ ap (λ b. charges_of p w h ++ (charge_of o.moment (cond b (cost w o.size) 0) ∷ [])) out'))
+        sym same ∙ sym (ap (λ l. fill rate l t) (charges_snoc p w h (entry_of o (Ok c)) ∙ ap (λ b. charges_of p w h ++ (charge_of o.moment (cond b (cost w o.size) 0) ∷ [])) out'))
 
   module _ (w : Terms) (on : Offer → Bool) (by : (p : Entry → Bool) → By (clock_of h) (charges_of p w h)) where
     green_in : (b : Option Bucket) → on o ≡ true → c ≡ Green → green_level b o.moment ≡ fill_if (limit_of b) w on h o.moment →
@@ -79,15 +77,15 @@ module _ (w : Terms) (on : Offer → Bool) (h : History) (m : State) (k : Tracks
 
   -- a carried record that the meter lies on the path of
   pub tracks_on : (o : Offer) (c : Colour) → clock_of h ≤ o.moment → ((v : Terms) (p : Entry → Bool) → By (clock_of h) (charges_of p v h)) → on o ≡ true →
-      Tracks w on (h ++ (entry_of o (Carried c) ∷ [])) (counted m o.moment (cost (terms_of m) o.size) c)
-  tracks_on o c late by q = subst (λ v. Tracks v on (h ++ (entry_of o (Carried c) ∷ [])) (counted m o.moment (cost (terms_of m) o.size) c)) k.terms (record {
+      Tracks w on (h ++ (entry_of o (Ok c) ∷ [])) (counted m o.moment (cost (terms_of m) o.size) c)
+  tracks_on o c late by q = subst (λ v. Tracks v on (h ++ (entry_of o (Ok c) ∷ [])) (counted m o.moment (cost (terms_of m) o.size) c)) k.terms (record {
     terms = counted_terms m o.moment (cost (terms_of m) o.size) c;
     past = rw (clock_now h o c late) (le_refl o.moment);
     all = λ t le. bucket_in h o c late m.all.limit.rate (terms_of m) (counts on) (by (terms_of m) _) t (now_late h o c late t le) q (level m.all o.moment) (own.all o.moment late);
     green = λ t le. green c refl t (now_late h o c late t le);
   })
     where
-      green : (d : Colour) → c ≡ d → (t : ℕ) → o.moment ≤ t → green_level (green_filled m.green o.moment (cost (terms_of m) o.size) d) t ≡ fill_if (limit_of m.green) (terms_of m) on (h ++ (entry_of o (Carried c) ∷ [])) t
+      green : (d : Colour) → c ≡ d → (t : ℕ) → o.moment ≤ t → green_level (green_filled m.green o.moment (cost (terms_of m) o.size) d) t ≡ fill_if (limit_of m.green) (terms_of m) on (h ++ (entry_of o (Ok c) ∷ [])) t
       green Green e t le = green_in h o c late (terms_of m) on (by (terms_of m)) m.green q e (own.green o.moment late) t le
       green Yellow e t le =
           ap (λ b. green_level b t) (green_yellow m.green o.moment (cost (terms_of m) o.size))
@@ -95,25 +93,25 @@ module _ (w : Terms) (on : Offer → Bool) (h : History) (m : State) (k : Tracks
 
   -- a carried record that it does not lie on the path of
   pub tracks_off : (o : Offer) (c : Colour) → clock_of h ≤ o.moment → ((v : Terms) (p : Entry → Bool) → By (clock_of h) (charges_of p v h)) → on o ≡ false →
-      Tracks w on (h ++ (entry_of o (Carried c) ∷ [])) m
-  tracks_off o c late by q = subst (λ v. Tracks v on (h ++ (entry_of o (Carried c) ∷ [])) m) k.terms (record {
+      Tracks w on (h ++ (entry_of o (Ok c) ∷ [])) m
+  tracks_off o c late by q = subst (λ v. Tracks v on (h ++ (entry_of o (Ok c) ∷ [])) m) k.terms (record {
     terms = refl;
     past = rw (clock_now h o c late) (le_trans k.past late);
     all = λ t le. own.all t (le_trans late (now_late h o c late t le)) ∙ bucket_out h o c late m.all.limit.rate (terms_of m) (counts on) (by (terms_of m) _) t (now_late h o c late t le) q;
     green = λ t le. green_out h o c late (terms_of m) on (by (terms_of m)) m.green (ap (λ v. v && is_green c) q) t (now_late h o c late t le) (own.green t (le_trans late (now_late h o c late t le)));
   })
 
-  green_none : (b : Option Bucket) (o : Offer) (e : Refusal) → (v : Terms) (t : ℕ) → green_level b t ≡ fill_if (limit_of b) v on h t → green_level b t ≡ fill_if (limit_of b) v on (h ++ (entry_of o (Refused e) ∷ [])) t
+  green_none : (b : Option Bucket) (o : Offer) (e : Refusal) → (v : Terms) (t : ℕ) → green_level b t ≡ fill_if (limit_of b) v on h t → green_level b t ≡ fill_if (limit_of b) v on (h ++ (entry_of o (Err e) ∷ [])) t
   green_none None o e v t is = refl
   green_none (Some b) o e v t is = is ∙ sym (ap (λ l. fill b.limit.rate l t) (charges_none (counts_green on) v h o e))
 
   -- a refused record
-  pub tracks_none : (o : Offer) (e : Refusal) → Timely h o (Refused e) → Tracks w on (h ++ (entry_of o (Refused e) ∷ [])) m
-  tracks_none o e timely = subst (λ v. Tracks v on (h ++ (entry_of o (Refused e) ∷ [])) m) k.terms (record {
+  pub tracks_none : (o : Offer) (e : Refusal) → Timely h o (Err e) → Tracks w on (h ++ (entry_of o (Err e) ∷ [])) m
+  tracks_none o e timely = subst (λ v. Tracks v on (h ++ (entry_of o (Err e) ∷ [])) m) k.terms (record {
     terms = refl;
-    past = le_trans k.past (clock_rises h o (Refused e) timely);
-    all = λ t le. own.all t (le_trans (clock_rises h o (Refused e) timely) le) ∙ sym (ap (λ l. fill m.all.limit.rate l t) (charges_none (counts on) (terms_of m) h o e));
-    green = λ t le. green_none m.green o e (terms_of m) t (own.green t (le_trans (clock_rises h o (Refused e) timely) le));
+    past = le_trans k.past (clock_rises h o (Err e) timely);
+    all = λ t le. own.all t (le_trans (clock_rises h o (Err e) timely) le) ∙ sym (ap (λ l. fill m.all.limit.rate l t) (charges_none (counts on) (terms_of m) h o e));
+    green = λ t le. green_none m.green o e (terms_of m) t (own.green t (le_trans (clock_rises h o (Err e) timely) le));
   })
 
   -- it is asked about a fair offer without a refusal
@@ -154,15 +152,15 @@ carried_key_lem : (x : Entry) (k : Key) → is_carried x.answer ≡ true → is_
 carried_key_lem x k e = go x.answer e
   where
     go : (a : Answer) → is_carried a ≡ true → is_key k (carried_by a (key_of x.offer)) ≡ on_flow k x.offer
-    go (Carried c) e = refl
-    go (Refused r) e = let z : ◌≡◌ {A = ℕ} 0 1 = cc in absurd (omega arith)
+    go (Ok c) e = refl
+    go (Err r) e = cc
 
 cost_zero : (w : Terms) (k : Key) (p : Entry → Bool) → ((e : Entry) → on_flow k e.offer ≡ false → p e ≡ false) → (h : History) → carried_key h k ≡ false → window_cost (charges_of p w h) ≡ 0
 cost_zero w k p f [] n = refl
 cost_zero w k p f (x ∷ h) n = go (is_carried x.answer) refl (is_key k (carried_of x)) refl (cost_zero w k p f h) n
   where
     go : (b : Bool) → is_carried x.answer ≡ b → (a : Bool) → is_key k (carried_of x) ≡ a → (carried_key h k ≡ false → window_cost (charges_of p w h) ≡ 0) → cond a true (carried_key h k) ≡ false → window_cost (cond b (charge_of x.offer.moment (cond (p x) (cost w x.offer.size) 0) ∷ charges_of p w h) (charges_of p w h)) ≡ 0
-    go b eb true ea more z = let y : ◌≡◌ {A = ℕ} 0 1 = cc in absurd (omega arith)
+    go b eb true ea more z = cc
     go true eb false ea more z =
         let q : cond (p x) (cost w x.offer.size) 0 ≡ 0 = ap (λ v. cond v (cost w x.offer.size) 0) (f x (sym (carried_key_lem x k eb) ∙ ea)) in
         omega (arith, q, more z)

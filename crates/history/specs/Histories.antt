@@ -27,9 +27,7 @@ use Rattle.policy.specs.Rules.{matches}
 use Rattle.policy.specs.Trees.{ancestry}
 use Rattle.history.specs.declared.answers.Refusal.{Refusal}
 use Rattle.history.specs.declared.answers.Refusal.TheVariants.{Backward, TableFull}
-use Rattle.history.specs.declared.answers.Answer.{Answer}
-use Rattle.history.specs.declared.answers.Answer.TheVariants.{Carried, Refused}
-use Rattle.history.specs.Answers.{is_carried, carried_green, went_back, judged}
+use Rattle.history.specs.Answers.{Answer, is_carried, carried_green, went_back, judged}
 
 pub record Flow : Type 0 where
   pub key : Key
@@ -158,8 +156,8 @@ abbrev pub meter_over : Terms → (Offer → Bool) → History → Offer → Boo
 meter_over w on h o = not (nat_le (all_fill w on h o.moment + cost w o.size) w.all.depth.0)
 
 abbrev pub carried_by : Answer → Option Key → Option Key
-carried_by (Carried c) k = k
-carried_by (Refused e) k = None
+carried_by (Ok c) k = k
+carried_by (Err e) k = None
 
 -- the key of a carried record
 abbrev pub carried_of : Entry → Option Key
@@ -193,13 +191,13 @@ over_for g h o key k = cond (k == 0) (meter_over (flow_terms g key) (on_flow key
 
 -- past the check of its moment
 abbrev pub answer_for : Config → History → Offer → Result Flow Refusal → Answer
-answer_for g h o (Err e) = Refused e
+answer_for g h o (Err e) = Err e
 answer_for g h o (Ok f) =
-    cond (not (carried_key h f.key) && keys_like f.key h == room g f.key) (Refused TableFull)
+    cond (not (carried_key h f.key) && keys_like f.key h == room g f.key) (Err TableFull)
     (judged (fits_for g h o f.key) (over_for g h o f.key) f.arrival (0 ∷ nodes_of g o))
 
 abbrev pub answer_of : Config → History → Offer → Answer
-answer_of g h o = cond (nat_lt o.moment (clock_of h)) (Refused Backward) (answer_for g h o o.flow)
+answer_of g h o = cond (nat_lt o.moment (clock_of h)) (Err Backward) (answer_for g h o o.flow)
 
 abbrev pub LawfulFrom : Config → History → History → Type 0
 LawfulFrom g before [] = Unit {0}

@@ -5,8 +5,9 @@ ghost use Rattle.history.specs.Answers.{number_of};
 use meter::measures::Colour;
 use paths::layers::Place;
 
-// Why a record is not carried.
-#[derive(Clone, Copy, PartialEq, Debug)]
+// Why a record is not carried. An enum of its own: the packet's and the capture's refusals have cases that no record is
+// answered with.
+#[derive(Clone, Copy, PartialEq, Eq, Debug)]
 pub enum Refusal {
     // a fraction of a second that is a second or more
     BadFraction,
@@ -32,13 +33,11 @@ pub enum Refusal {
     OverExcess(Place),
 }
 
-#[derive(Clone, Copy, PartialEq, Debug)]
-pub enum Answer {
-    Carried(Colour),
-    Refused(Refusal),
-}
+// The colour at which a record is carried, or why it is not.
+pub type Answer = Result<Colour, Refusal>;
 
 impl Refusal {
+    // The number of each refusal. No discriminants, which a case with a place beside it cannot have.
     pub fn number(self) -> u8
         ensures { result ≡ number_of self }
     {

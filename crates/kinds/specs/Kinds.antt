@@ -39,8 +39,8 @@ single_meaning m =
     record {
       base = grains 0;
       per_byte = grains grains_a_byte;
-      all = held m.cir ((m.cbs + m.ebs) * grains_a_byte) m.all;
-      green = Some (held m.cir (m.cbs * grains_a_byte) m.green);
+      all = held m.cir ((m.cbs + m.ebs) * grains_a_byte) m.levels.all;
+      green = Some (held m.cir (m.cbs * grains_a_byte) m.levels.green);
       excess = Some (grains (m.ebs * grains_a_byte));
     }
 
@@ -49,8 +49,8 @@ two_meaning m =
     record {
       base = grains 0;
       per_byte = grains grains_a_byte;
-      all = held m.pir (m.pbs * grains_a_byte) m.all;
-      green = Some (held m.cir (m.cbs * grains_a_byte) m.green);
+      all = held m.pir (m.pbs * grains_a_byte) m.levels.all;
+      green = Some (held m.cir (m.cbs * grains_a_byte) m.levels.green);
       excess = None;
     }
 

@@ -1,12 +1,13 @@
 -- What a profile buys: the table of the five kinds, and the ranges of their numbers.
 -- fault_number: the number of each fault
--- within: a number in its range, or a fault; and_then: one check behind another
+-- within: a number in its range, or a fault
 -- rate_of, tolerance_of, burst_of, loose_burst_of, excess_of, peak_of: the check of each word
 -- gcra_terms, token_terms, single_terms, two_terms: the rows of the table; bought: the terms of a profile, or its first fault in the order of the words
 -- made: the unused meter of what was bought; meant: a result by the meaning of its meter
 -- Word, word_bought, word_of: the kind of a profile, and of a meter
 -- Assumes nothing.
 use Rattle.std.specs.Prelude.{ℕ, ◌+◌, ◌*◌, cond, ◌&&◌, Some, None, Ok, Err, Result, nat_le}
+use Rattle.std.specs.Result.{result_and}
 use Rattle.meter.specs.declared.measures.Limit.{Limit}
 use Rattle.meter.specs.declared.measures.State.{State}
 use Rattle.meter.specs.declared.measures.Terms.{Terms}
@@ -33,11 +34,6 @@ largest_tolerance = 1000000000000
 abbrev pub within : ℕ → ℕ → Fault → ℕ → Result ℕ Fault
 within low high f n = cond (nat_le low n && nat_le n high) (Ok n) (Err f)
 
--- the next word's check, behind one that passed
-abbrev pub and_then : {X : Type 0} → Result ℕ Fault → Result X Fault → Result X Fault
-and_then (Ok n) r = r
-and_then (Err e) r = Err e
-
 -- an interval, or a rate
 abbrev pub rate_of : ℕ → Result ℕ Fault
 rate_of n = within 1 largest BadRate n
@@ -58,7 +54,7 @@ excess_of cbs ebs = cond (nat_le 1 (cbs + ebs)) (loose_burst_of ebs) (Err BadDep
 
 -- the peak rate behind a committed one: in range, and no lower
 abbrev pub peak_of : ℕ → ℕ → Result ℕ Fault
-peak_of cir pir = and_then (rate_of pir) (cond (nat_le cir pir) (Ok pir) (Err PeakBelowCommitted))
+peak_of cir pir = result_and (rate_of pir) (cond (nat_le cir pir) (Ok pir) (Err PeakBelowCommitted))
 
 abbrev pub limit : ℕ → ℕ → Limit
 limit rate depth = record { rate = rate; depth = grains depth }
@@ -92,14 +88,15 @@ two_terms cir cbs pir pbs =
       excess = None;
     }
 
+-- the terms, behind the check of each word in its turn
 abbrev pub bought : Profile → Result Terms Fault
-bought (Vs t l) = and_then (rate_of t) (and_then (tolerance_of l) (Ok (gcra_terms t l)))
-bought (Lb t l) = and_then (rate_of t) (and_then (tolerance_of l) (Ok (gcra_terms t l)))
-bought (Tb r b) = and_then (rate_of r) (and_then (burst_of b) (Ok (token_terms r b)))
+bought (Vs t l) = result_and (rate_of t) (result_and (tolerance_of l) (Ok (gcra_terms t l)))
+bought (Lb t l) = result_and (rate_of t) (result_and (tolerance_of l) (Ok (gcra_terms t l)))
+bought (Tb r b) = result_and (rate_of r) (result_and (burst_of b) (Ok (token_terms r b)))
 bought (Sr cir cbs ebs) =
-    and_then (rate_of cir) (and_then (loose_burst_of cbs) (and_then (excess_of cbs ebs) (Ok (single_terms cir cbs ebs))))
+    result_and (rate_of cir) (result_and (loose_burst_of cbs) (result_and (excess_of cbs ebs) (Ok (single_terms cir cbs ebs))))
 bought (Tr cir cbs pir pbs) =
-    and_then (rate_of cir) (and_then (burst_of cbs) (and_then (peak_of cir pir) (and_then (burst_of pbs) (Ok (two_terms cir cbs pir pbs)))))
+    result_and (rate_of cir) (result_and (burst_of cbs) (result_and (peak_of cir pir) (result_and (burst_of pbs) (Ok (two_terms cir cbs pir pbs)))))
 
 abbrev pub fresh : Result Terms Fault → Result State Fault
 fresh (Ok w) = Ok (unused w)

@@ -1,9 +1,9 @@
 // Each kind of meter behind the one interface: what its numbers stand for, and what it takes over.
-ghost use Rattle.std.specs.Prelude.{◌≡◌, ◌*◌};
+ghost use Rattle.std.specs.Prelude.{◌≡◌, ◌*◌, IfSome};
 ghost use Rattle.kinds.specs.Kinds.{grains_a_byte, held, gcra_meaning, token_meaning, single_meaning, two_meaning, any_meaning};
 ghost use Rattle.std.proofs.Common.{rules};
 
-use crate::profiles::{AnyMeter, Gcra, Level, SingleRate, TokenBucket, TwoRate};
+use crate::profiles::{AnyMeter, Gcra, Level, Levels, SingleRate, TokenBucket, TwoRate};
 use meter::measures::{Bucket, Grains, Limit, State};
 use meter::metering::Meter;
 
@@ -15,7 +15,7 @@ pub const GRAINS_A_MICROSECOND: u64 = 1;
 fn bytes(n: u32) -> Grains
     ensures { result.0 ≡ n * grains_a_byte }
 {
-    Grains(n as u64 * GRAINS_A_BYTE)
+    Grains(u64::from(n) * GRAINS_A_BYTE)
 }
 
 impl Level {
@@ -28,19 +28,37 @@ impl Level {
                 rate: rate.max(1),
                 depth,
             },
-            fill: Grains(self.fill.0.min(depth.0)),
+            fill: self.fill.min(depth),
             last: self.last,
         }
     }
+}
 
-    fn take_over(&mut self, bucket: Bucket)
-        ensures { (self.new.fill ≡ bucket.fill) × (self.new.last ≡ bucket.last) }
-    {
-        self.fill = bucket.fill;
-        self.last = bucket.last;
+// What runs in a bucket, without its terms.
+impl From<Bucket> for Level {
+    ghost from_gives = { λ bucket level. (level.fill ≡ bucket.fill) × (level.last ≡ bucket.last) };
+
+    fn from(bucket: Bucket) -> Level {
+        Level {
+            fill: bucket.fill,
+            last: bucket.last,
+        }
     }
 }
 
+impl Levels {
+    fn take_over(&mut self, state: State)
+        ensures all { (self.new.all.fill ≡ state.all.fill) × (self.new.all.last ≡ state.all.last) }
+        ensures green { IfSome state.green (λ g. (self.new.green.fill ≡ g.fill) × (self.new.green.last ≡ g.last)) }
+    {
+        self.all = Level::from(state.all);
+        if let Some(green) = state.green {
+            self.green = Level::from(green);
+        }
+    }
+}
+
+// Two kinds have one bucket and two have two, and each `store` is one line: a trait of their levels would be longer.
 impl Meter for Gcra {
     ghost meaning = { gcra_meaning };
 
@@ -57,7 +75,7 @@ impl Meter for Gcra {
     }
 
     fn store(&mut self, state: State) {
-        self.all.take_over(state.all);
+        self.all = Level::from(state.all);
     }
 }
 
@@ -70,14 +88,14 @@ impl Meter for TokenBucket {
         State {
             base: Grains(0),
             per_byte: bytes(1),
-            all: self.all.held(self.rate as u64, bytes(self.burst)),
+            all: self.all.held(u64::from(self.rate), bytes(self.burst)),
             green: None,
             excess: None,
         }
     }
 
     fn store(&mut self, state: State) {
-        self.all.take_over(state.all);
+        self.all = Level::from(state.all);
     }
 }
 
@@ -87,23 +105,20 @@ impl Meter for SingleRate {
     ghost sound = { Prim.search rules };
 
     fn state(&self) -> State {
-        let cir = self.cir as u64;
+        let cir = u64::from(self.cir);
         let cbs = bytes(self.cbs);
         let ebs = bytes(self.ebs);
         State {
             base: Grains(0),
             per_byte: bytes(1),
-            all: self.all.held(cir, Grains(cbs.0 + ebs.0)),
-            green: Some(self.green.held(cir, cbs)),
+            all: self.levels.all.held(cir, Grains(cbs.0 + ebs.0)),
+            green: Some(self.levels.green.held(cir, cbs)),
             excess: Some(ebs),
         }
     }
 
     fn store(&mut self, state: State) {
-        self.all.take_over(state.all);
-        if let Some(green) = state.green {
-            self.green.take_over(green);
-        }
+        self.levels.take_over(state);
     }
 }
 
@@ -116,17 +131,14 @@ impl Meter for TwoRate {
         State {
             base: Grains(0),
             per_byte: bytes(1),
-            all: self.all.held(self.pir as u64, bytes(self.pbs)),
-            green: Some(self.green.held(self.cir as u64, bytes(self.cbs))),
+            all: self.levels.all.held(u64::from(self.pir), bytes(self.pbs)),
+            green: Some(self.levels.green.held(u64::from(self.cir), bytes(self.cbs))),
             excess: None,
         }
     }
 
     fn store(&mut self, state: State) {
-        self.all.take_over(state.all);
-        if let Some(green) = state.green {
-            self.green.take_over(green);
-        }
+        self.levels.take_over(state);
     }
 }
 
@@ -135,10 +147,10 @@ impl Meter for AnyMeter {
 
     ghost sound = { Prim.search rules };
 
+    // An enum and no `dyn`: tables hold meters of any kind by value, and nothing may lend a `dyn` out of them.
     fn state(&self) -> State {
         match self {
-            AnyMeter::Vs(m) => m.state(),
-            AnyMeter::Lb(m) => m.state(),
+            AnyMeter::Vs(m) | AnyMeter::Lb(m) => m.state(),
             AnyMeter::Tb(m) => m.state(),
             AnyMeter::Sr(m) => m.state(),
             AnyMeter::Tr(m) => m.state(),
@@ -146,6 +158,7 @@ impl Meter for AnyMeter {
     }
 
     fn store(&mut self, state: State) {
+        // An arm for each kind: behind a pattern of two, what the call leaves is not found in the proof.
         match self {
             AnyMeter::Vs(m) => m.store(state),
             AnyMeter::Lb(m) => m.store(state),

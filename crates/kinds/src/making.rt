@@ -1,22 +1,19 @@
 // From what is bought to the unused meter: the range of each number, then the row of the table.
 ghost use Rattle.std.specs.Prelude.{◌≡◌, IfOk};
 ghost use Rattle.kinds.specs.Kinds.{gcra_meaning, token_meaning, single_meaning, two_meaning, any_meaning};
-ghost use Rattle.kinds.specs.Making.{fault_number, rate_of, tolerance_of, burst_of, loose_burst_of, excess_of, peak_of, made, meant, word_of, word_bought};
+ghost use Rattle.kinds.specs.Making.{fault_number, within, rate_of, tolerance_of, burst_of, loose_burst_of, excess_of, peak_of, made, meant, word_of, word_bought};
 ghost use Rattle.kinds.specs.declared.profiles.Profile.TheVariants.{Vs, Tb, Sr, Tr};
 
 use crate::kinds::GRAINS_A_MICROSECOND;
-use crate::profiles::{AnyMeter, Fault, Gcra, Level, Profile, SingleRate, TokenBucket, TwoRate};
-use meter::measures::{Grains, Moment};
+use crate::profiles::{
+    AnyMeter, Fault, Gcra, Level, Levels, Profile, SingleRate, TokenBucket, TwoRate,
+};
+use meter::measures::Grains;
 
 // The largest interval, rate or burst.
 pub const LARGEST: u32 = 1_000_000_000;
 
 pub const LARGEST_TOLERANCE: u64 = 1_000_000_000_000;
-
-const EMPTY: Level = Level {
-    fill: Grains(0),
-    last: Moment(0),
-};
 
 impl Fault {
     pub fn number(self) -> u8
@@ -30,43 +27,49 @@ impl Fault {
     }
 }
 
+// A number in its range.
+fn in_range(n: u64, least: u64, most: u64, fault: Fault) -> Result<u64, Fault>
+    ensures { result ≡ within least most fault n }
+{
+    if (least..=most).contains(&n) {
+        Ok(n)
+    } else {
+        Err(fault)
+    }
+}
+
+// The same, of a range that keeps to 32 bits.
+fn in_short_range(n: u64, least: u64, most: u32, fault: Fault) -> Result<u32, Fault>
+    ensures { result ≡ within least most fault n }
+{
+    in_range(n, least, u64::from(most), fault).map(|n| n as u32)
+}
+
 // An interval, or a rate.
 pub fn rate(n: u64) -> Result<u32, Fault>
     ensures { result ≡ rate_of n }
 {
-    if n < 1 || n > LARGEST as u64 {
-        return Err(Fault::BadRate);
-    }
-    Ok(n as u32)
+    in_short_range(n, 1, LARGEST, Fault::BadRate)
 }
 
 pub fn tolerance(n: u64) -> Result<u64, Fault>
     ensures { result ≡ tolerance_of n }
 {
-    if n > LARGEST_TOLERANCE {
-        return Err(Fault::BadDepth);
-    }
-    Ok(n)
+    in_range(n, 0, LARGEST_TOLERANCE, Fault::BadDepth)
 }
 
 // A burst that must be something.
 pub fn burst(n: u64) -> Result<u32, Fault>
     ensures { result ≡ burst_of n }
 {
-    if n < 1 {
-        return Err(Fault::BadDepth);
-    }
-    loose_burst(n)
+    in_short_range(n, 1, LARGEST, Fault::BadDepth)
 }
 
 // A burst that may be nothing.
 pub fn loose_burst(n: u64) -> Result<u32, Fault>
     ensures { result ≡ loose_burst_of n }
 {
-    if n > LARGEST as u64 {
-        return Err(Fault::BadDepth);
-    }
-    Ok(n as u32)
+    in_short_range(n, 0, LARGEST, Fault::BadDepth)
 }
 
 // The excess burst behind a committed one: one of the two must be something.
@@ -94,12 +97,12 @@ impl Gcra {
     pub fn new(interval: u64, limit: u64) -> Result<Gcra, Fault>
         ensures { meant gcra_meaning result ≡ made (Vs interval limit) }
     {
-        let interval = rate(interval)? as u64;
+        let interval = u64::from(rate(interval)?);
         let limit = tolerance(limit)?;
         Ok(Gcra {
             increment: Grains(interval * GRAINS_A_MICROSECOND),
             depth: Grains((interval + limit) * GRAINS_A_MICROSECOND),
-            all: EMPTY,
+            all: Level::default(),
         })
     }
 }
@@ -111,7 +114,7 @@ impl TokenBucket {
         Ok(TokenBucket {
             rate: rate(r)?,
             burst: burst(b)?,
-            all: EMPTY,
+            all: Level::default(),
         })
     }
 }
@@ -127,8 +130,7 @@ impl SingleRate {
             cir,
             cbs,
             ebs,
-            all: EMPTY,
-            green: EMPTY,
+            levels: Levels::default(),
         })
     }
 }
@@ -146,8 +148,7 @@ impl TwoRate {
             cbs,
             pir,
             pbs,
-            all: EMPTY,
-            green: EMPTY,
+            levels: Levels::default(),
         })
     }
 }
@@ -161,16 +162,16 @@ impl AnyMeter {
             Profile::Vs {
                 interval,
                 tolerance,
-            } => Ok(AnyMeter::Vs(Gcra::new(interval, tolerance)?)),
+            } => Gcra::new(interval, tolerance).map(AnyMeter::Vs),
             Profile::Lb {
                 interval,
                 tolerance,
-            } => Ok(AnyMeter::Lb(Gcra::new(interval, tolerance)?)),
-            Profile::Tb { rate, burst } => Ok(AnyMeter::Tb(TokenBucket::new(rate, burst)?)),
-            Profile::Sr { cir, cbs, ebs } => Ok(AnyMeter::Sr(SingleRate::new(cir, cbs, ebs)?)),
-            Profile::Tr { cir, cbs, pir, pbs } => Ok(AnyMeter::Tr(TwoRate::new(
-                cir, cbs, pir, pbs,
-            )?)),
+            } => Gcra::new(interval, tolerance).map(AnyMeter::Lb),
+            Profile::Tb { rate, burst } => TokenBucket::new(rate, burst).map(AnyMeter::Tb),
+            Profile::Sr { cir, cbs, ebs } => SingleRate::new(cir, cbs, ebs).map(AnyMeter::Sr),
+            Profile::Tr { cir, cbs, pir, pbs } => TwoRate::new(cir, cbs, pir, pbs).map(
+                AnyMeter::Tr,
+            ),
         }
     }
 }

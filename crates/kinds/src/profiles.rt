@@ -2,7 +2,7 @@
 use meter::measures::{Grains, Moment};
 
 // A meter as it is bought. Intervals and tolerances are microseconds, rates bytes a second, bursts bytes.
-#[derive(Clone, Copy)]
+#[derive(Clone, Copy, PartialEq, Eq, Debug)]
 pub enum Profile {
     // GCRA by virtual scheduling
     Vs {
@@ -35,7 +35,7 @@ pub enum Profile {
 }
 
 // Why a profile makes no meter.
-#[derive(Clone, Copy, PartialEq, Debug)]
+#[derive(Clone, Copy, PartialEq, Eq, Debug)]
 pub enum Fault {
     // an interval or a rate out of range
     BadRate,
@@ -46,48 +46,53 @@ pub enum Fault {
 }
 
 // What runs in a bucket: its fill just after its last charge, and the moment of that.
-#[derive(Clone, Copy)]
+#[derive(Clone, Copy, Default, PartialEq, Eq, Debug)]
 pub struct Level {
     pub fill: Grains,
     pub last: Moment,
 }
 
+// What runs in a meter of two buckets.
+#[derive(Clone, Copy, Default, PartialEq, Eq, Debug)]
+pub struct Levels {
+    pub all: Level,
+    pub green: Level,
+}
+
 // The generic cell rate algorithm, in either of its forms: each packet costs the increment, one grain leaks a microsecond.
-#[derive(Clone, Copy)]
+#[derive(Clone, Copy, PartialEq, Eq, Debug)]
 pub struct Gcra {
     pub increment: Grains,
     pub depth: Grains,
     pub all: Level,
 }
 
-#[derive(Clone, Copy)]
+#[derive(Clone, Copy, PartialEq, Eq, Debug)]
 pub struct TokenBucket {
     pub rate: u32,
     pub burst: u32,
     pub all: Level,
 }
 
-#[derive(Clone, Copy)]
+#[derive(Clone, Copy, PartialEq, Eq, Debug)]
 pub struct SingleRate {
     pub cir: u32,
     pub cbs: u32,
     pub ebs: u32,
-    pub all: Level,
-    pub green: Level,
+    pub levels: Levels,
 }
 
-#[derive(Clone, Copy)]
+#[derive(Clone, Copy, PartialEq, Eq, Debug)]
 pub struct TwoRate {
     pub cir: u32,
     pub cbs: u32,
     pub pir: u32,
     pub pbs: u32,
-    pub all: Level,
-    pub green: Level,
+    pub levels: Levels,
 }
 
 // A meter of any of the five kinds, for a mixture of them.
-#[derive(Clone, Copy)]
+#[derive(Clone, Copy, PartialEq, Eq, Debug)]
 pub enum AnyMeter {
     Vs(Gcra),
     Lb(Gcra),

@@ -48,8 +48,8 @@ windows_hold rate depth cs = (held rate depth cs, admitted rate depth cs)
 
 -- charges that are split are some
 not_empty : (xs : List Charge) (d : Charge) (ys : List Charge) → [] ≡ xs ++ (d ∷ ys) → ⊥
-not_empty [] d ys e = let z : ◌≡◌ {A = ℕ} 0 1 = cc in omega arith
-not_empty (x ∷ xs) d ys e = let z : ◌≡◌ {A = ℕ} 0 1 = cc in omega arith
+not_empty [] d ys e = cc
+not_empty (x ∷ xs) d ys e = cc
 
 pub admitted_none : (rate depth : ℕ) → Admitted rate depth []
 admitted_none rate depth xs c ys e = absurd (not_empty xs c ys e)

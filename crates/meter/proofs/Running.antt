@@ -1,7 +1,7 @@
 -- From an unused meter on, the buckets of a run follow its charges.
 -- Assumes nothing.
-use Rattle.std.proofs.Common.{◌≡◌, ℕ, ◌+◌, ◌<◌, ◌≤◌, Bool, true, false, cond, List, [], ◌∷◌, ◌++◌, length, get_or, drop, Some, None, Ok, Err, Option, sym, refl, ap, ◌∙◌, subst, append_assoc, append-nil, arith}
-use Rattle.std.proofs.lemmas.List.{at_drop_more}
+use Rattle.std.proofs.Common.{◌≡◌, ℕ, ◌≤◌, Bool, true, false, cond, List, [], ◌∷◌, ◌++◌, length, drop, Some, None, Ok, Err, Option, sym, refl, ap, ◌∙◌, subst, append_assoc, append-nil}
+use Rattle.std.proofs.lemmas.List.{at_drop_all}
 use Rattle.std.proofs.lemmas.Bool.{and_parts, leb-true}
 use Rattle.meter.specs.declared.measures.Arrival.{Arrival}
 use Rattle.meter.specs.declared.measures.Bucket.{Bucket}
@@ -15,7 +15,7 @@ use Rattle.meter.specs.Rules.{cost, green_level, green_room, green_filled, limit
 use Rattle.meter.specs.Alone.{best_of, best_for, colour_of, coloured, charged_as, left_by, answers, left_all}
 use Rattle.meter.specs.Windows.{Charge, charge_of}
 use Rattle.meter.specs.Laws.{Follows, Filled}
-use Rattle.meter.specs.Runs.{Answer, carried_at, every, is_green, charge_for, charges_of, FilledGreen, Metered}
+use Rattle.meter.specs.Runs.{Answer, carried_at, every, is_green, charge_for, charges_of, FilledGreen, Metered, Ran}
 use Rattle.meter.proofs.Keeps.{unless_ok, counted_sound, counted_terms}
 use Rattle.meter.proofs.Following.{follows_none, follows_charge, follows_skip, follows_fill}
 
@@ -25,20 +25,20 @@ best_fits f Green k h = go (f Colour.Green) (f Colour.Yellow) k refl refl h
   where
     go : (g y : Bool) (k : Colour) → f Colour.Green ≡ g → f Colour.Yellow ≡ y → colour_of (cond g (Some Colour.Green) (cond y (Some Colour.Yellow) None)) ≡ colour_of (Some k) → f k ≡ true
     go true y Colour.Green p q e = p
-    go true y Colour.Yellow p q e = let w : ◌≡◌ {A = ℕ} 0 1 = cc in absurd (omega arith)
-    go false true Colour.Green p q e = let w : ◌≡◌ {A = ℕ} 0 1 = cc in absurd (omega arith)
+    go true y Colour.Yellow p q e = cc
+    go false true Colour.Green p q e = cc
     go false true Colour.Yellow p q e = q
-    go false false Colour.Green p q e = let w : ◌≡◌ {A = ℕ} 0 1 = cc in absurd (omega arith)
-    go false false Colour.Yellow p q e = let w : ◌≡◌ {A = ℕ} 0 1 = cc in absurd (omega arith)
+    go false false Colour.Green p q e = cc
+    go false false Colour.Yellow p q e = cc
 best_fits f Yellow k h = go (f Colour.Yellow) k refl h
   where
     go : (y : Bool) (k : Colour) → f Colour.Yellow ≡ y → colour_of (cond y (Some Colour.Yellow) None) ≡ colour_of (Some k) → f k ≡ true
-    go true Colour.Green q e = let w : ◌≡◌ {A = ℕ} 0 1 = cc in absurd (omega arith)
+    go true Colour.Green q e = cc
     go true Colour.Yellow q e = q
-    go false Colour.Green q e = let w : ◌≡◌ {A = ℕ} 0 1 = cc in absurd (omega arith)
-    go false Colour.Yellow q e = let w : ◌≡◌ {A = ℕ} 0 1 = cc in absurd (omega arith)
-best_fits f Red Colour.Green h = let w : ◌≡◌ {A = ℕ} 0 1 = cc in absurd (omega arith)
-best_fits f Red Colour.Yellow h = let w : ◌≡◌ {A = ℕ} 0 1 = cc in absurd (omega arith)
+    go false Colour.Green q e = cc
+    go false Colour.Yellow q e = cc
+best_fits f Red Colour.Green h = cc
+best_fits f Red Colour.Yellow h = cc
 
 abbrev FollowsGreen : Option Bucket → ℕ → List Charge → Type 0
 FollowsGreen None clock cs = Unit {0}
@@ -114,7 +114,7 @@ filled_green : (g : Option Bucket) (clock : ℕ) (cs : List Charge) → FollowsG
 filled_green None clock cs f = tt
 filled_green (Some g) clock cs f = follows_fill g clock cs f
 
-pub run_metered : (m : State) (arrivals : List Arrival) → Sound m → m ≡ unused (terms_of m) → Metered (left_all m arrivals) arrivals (answers m arrivals)
+run_metered : (m : State) (arrivals : List Arrival) → Sound m → m ≡ unused (terms_of m) → Metered (left_all m arrivals) arrivals (answers m arrivals)
 run_metered m arrivals s e =
     let w = terms_of m in
     let start : Tracks m [] [] = subst (λ x. Tracks x [] []) (sym e) (record { sound = subst Sound e s; all = follows_none w.all; green = green_none w.green }) in
@@ -125,15 +125,15 @@ run_metered m arrivals s e =
       green = subst (λ u. FilledGreen last.green last.all.last.0 (charges_of is_green u arrivals (answers m arrivals))) (sym r.1) (filled_green last.green last.all.last.0 _ r.0.green);
     }
 
--- one arrival more, at i
-module _ (m next : State) (arrivals : List Arrival) (i : ℕ) (d : Arrival) (r : Answer) (h : i < length arrivals) (value : r ≡ coloured m (get_or arrivals i d)) (after : next ≡ left_by m (get_or arrivals i d)) where
-  pub answers_more : (before whole : List Answer) → whole ≡ before ++ answers m (drop i arrivals) → whole ≡ (before ++ (r ∷ [])) ++ answers next (drop (i + 1) arrivals)
-  answers_more before whole e =
-      let step : answers m (drop i arrivals) ≡ coloured m (get_or arrivals i d) ∷ answers (left_by m (get_or arrivals i d)) (drop (i + 1) arrivals) = at_drop_more (answers m) arrivals i d h in
-      let here : answers m (drop i arrivals) ≡ r ∷ answers next (drop (i + 1) arrivals) = step ∙ ap (λ x. x ∷ answers (left_by m (get_or arrivals i d)) (drop (i + 1) arrivals)) (sym value) ∙ ap (λ s. r ∷ answers s (drop (i + 1) arrivals)) (sym after) in
-      e ∙ ap (λ l. before ++ l) here ∙ simp append_assoc
-
-  pub left_more : left_all m (drop i arrivals) ≡ left_all next (drop (i + 1) arrivals)
-  left_more =
-      let step : left_all m (drop i arrivals) ≡ left_all (left_by m (get_or arrivals i d)) (drop (i + 1) arrivals) = at_drop_more (left_all m) arrivals i d h in
-      step ∙ ap (λ s. left_all s (drop (i + 1) arrivals)) (sym after)
+-- where nothing is left of the arrivals
+pub ran : {S : Type 0} (f : S → State) (before after : S) (arrivals : List Arrival) (rs : List Answer) (i : ℕ) → Sound (f before) → length arrivals ≤ i →
+    answers (f before) arrivals ≡ rs ++ answers (f after) (drop i arrivals) → left_all (f before) arrivals ≡ left_all (f after) (drop i arrivals) →
+    Ran f before after arrivals rs
+ran f before after arrivals rs i s end p q =
+    let whole : answers (f before) arrivals ≡ rs = p ∙ ap (λ l. rs ++ l) (at_drop_all (answers (f after)) arrivals i end) ∙ append-nil rs in
+    let left : left_all (f before) arrivals ≡ f after = q ∙ at_drop_all (left_all (f after)) arrivals i end in
+    record {
+      answers = sym whole;
+      left = sym left;
+      metered = λ e. subst (λ l. Metered (f after) arrivals l) whole (subst (λ m. Metered m arrivals (answers (f before) arrivals)) left (run_metered (f before) arrivals s e));
+    }

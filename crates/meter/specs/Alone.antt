@@ -1,17 +1,26 @@
 -- A meter alone: the colour of a packet, and of each packet of a list.
+-- seen_as: the colour by which a packet is judged, in each mode
 -- allowed: may a packet that arrives with one colour be carried at another?
 -- Best: the best colour that fits and is allowed; best_of: the colour itself
--- coloured: the answer for an arrival; left_by: the meter after it
+-- colour_of: the colour of a packet that is carried so, or not at all
+-- coloured: the answer for an arrival; left_by: the meter after it; Untouched: the very same meter, where nothing is charged
 -- answers, left_all: the same for a list of arrivals, each after the ones before it
 -- Assumes nothing.
 use Rattle.std.specs.Prelude.{◌≡◌, Bool, true, false, cond, List, [], ◌∷◌, Some, None, Ok, Err, Option, Result}
 use Rattle.meter.specs.declared.measures.Arrival.{Arrival}
 use Rattle.meter.specs.declared.measures.Colour.{Colour}
+use Rattle.meter.specs.declared.measures.Mode.{Mode}
+use Rattle.meter.specs.declared.measures.Mode.TheVariants.{Blind, Aware}
 use Rattle.meter.specs.declared.measures.PacketColour.{PacketColour}
 use Rattle.meter.specs.declared.measures.PacketColour.TheVariants.{Green, Yellow, Red}
 use Rattle.meter.specs.declared.measures.Refusal.{Refusal}
 use Rattle.meter.specs.declared.measures.State.{State}
 use Rattle.meter.specs.Rules.{unless, fitting, counted, cost, terms_of}
+
+-- a blind meter takes every packet as green
+abbrev pub seen_as : Mode → PacketColour → PacketColour
+seen_as Blind a = Green
+seen_as Aware a = a
 
 -- no better than it arrived
 abbrev pub allowed : PacketColour → Colour → Bool

@@ -7,7 +7,8 @@
 -- unless: an answer, unless the size, the moment or the past is refused
 -- fits_in: whether an answer says that the colour fits
 -- asked, charged: what asking answers, and what charging answers or leaves
--- terms_of: the terms of a meter; Sound: what holds of every meter; unused: the meter nothing was charged to
+-- terms_of: the terms of a meter; SameTerms: they are the same after as before
+-- Sound: what holds of every meter; unused: the meter nothing was charged to
 -- Charged: what a charge answers and leaves
 -- number_of: the number of each refusal
 -- Assumes nothing.
@@ -75,6 +76,10 @@ limit_of (Some g) = Some g.limit
 abbrev pub terms_of : State → Terms
 terms_of m =
     record { base = m.base; per_byte = m.per_byte; all = m.all.limit; green = limit_of m.green; excess = m.excess }
+
+-- the terms are the same after as before
+abbrev pub SameTerms : {S : Type 0} → (S → State) → S → S → Type 0
+SameTerms f before after = terms_of (f after) ≡ terms_of (f before)
 
 abbrev pub fitting : State → ℕ → ℕ → Colour → Bool
 fitting m n t k = fits_by (terms_of m) (level m.all t) (green_level m.green t) (cost (terms_of m) n) k

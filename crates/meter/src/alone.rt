@@ -1,10 +1,10 @@
 // A meter alone: one packet, or a list of them, at the best colour that fits and is no better than the arrival colour.
 ghost use Rattle.std.specs.Prelude.{◌≡◌, MatchResult};
-ghost use Rattle.meter.specs.Rules.{terms_of};
-ghost use Rattle.meter.specs.Alone.{best_of, by_colour, Best, colour_of, coloured, left_by, Untouched};
+ghost use Rattle.meter.specs.Rules.{SameTerms};
+ghost use Rattle.meter.specs.Alone.{best_of, by_colour, Best, colour_of, coloured, left_by, seen_as, Untouched};
 ghost use Rattle.meter.specs.Runs.{Ran};
 
-use crate::measures::{Arrival, Colour, PacketColour, Refusal};
+use crate::measures::{Arrival, Colour, Load, Mode, PacketColour, Refusal};
 use crate::metering::Meter;
 use std::alloc::{AllocError, Global};
 
@@ -20,15 +20,40 @@ impl PacketColour {
             _ => None,
         }
     }
+}
 
-    // The colour of a packet that is carried so; one that is not carried is red.
-    pub fn carried(best: Option<Colour>) -> PacketColour
-        ensures { result ≡ colour_of best }
-    {
+// The colour of a packet that is carried so; one that is not carried is red.
+impl From<Option<Colour>> for PacketColour {
+    ghost from_gives = { λ best colour. colour ≡ colour_of best };
+
+    fn from(best: Option<Colour>) -> PacketColour {
         match best {
             Some(Colour::Green) => PacketColour::Green,
             Some(Colour::Yellow) => PacketColour::Yellow,
             None => PacketColour::Red,
+        }
+    }
+}
+
+impl Mode {
+    // The colour by which a packet that arrives with this one is judged.
+    pub fn sees(self, colour: PacketColour) -> PacketColour
+        ensures { result ≡ seen_as self colour }
+    {
+        match self {
+            Mode::Blind => PacketColour::Green,
+            Mode::Aware => colour,
+        }
+    }
+}
+
+impl Arrival {
+    pub(crate) fn load(self) -> Load
+        ensures { (result.size ≡ self.size) × (result.moment ≡ self.moment) }
+    {
+        Load {
+            size: self.size,
+            moment: self.moment,
         }
     }
 }
@@ -38,15 +63,16 @@ pub fn colour_packet<M: Meter>(meter: &mut M, arrival: Arrival) -> Result<Packet
     ensures value { result ≡ coloured (M.meaning meter.old) arrival }
     ensures after { M.meaning meter.new ≡ left_by (M.meaning meter.old) arrival }
     ensures same { Untouched result meter.old meter.new }
-    ensures terms { terms_of (M.meaning meter.new) ≡ terms_of (M.meaning meter.old) }
+    ensures terms { SameTerms M.meaning meter.old meter.new }
 {
-    let green = meter.ask(arrival.size, arrival.moment, Colour::Green)?;
-    let yellow = meter.ask(arrival.size, arrival.moment, Colour::Yellow)?;
+    let load = arrival.load();
+    let green = meter.ask(load, Colour::Green)?;
+    let yellow = meter.ask(load, Colour::Yellow)?;
     let best = arrival.colour.best(green.fits, yellow.fits);
     if let Some(colour) = best {
-        meter.charge(arrival.size, arrival.moment, colour)?;
+        meter.charge(load, colour)?;
     }
-    Ok(PacketColour::carried(best))
+    Ok(PacketColour::from(best))
 }
 
 // Colours a list of packets, one after another; want of memory is found before the first is charged.
@@ -56,7 +82,7 @@ pub fn colour_all<M: Meter>(
     arrivals: &[Arrival],
 ) -> Result<Vec<Result<PacketColour, Refusal>>, AllocError>
     ensures cases { MatchResult result (λ v. Ran M.meaning meter.old meter.new arrivals.now v.items) (λ _. meter.new ≡ meter.old) }
-    ensures terms { terms_of (M.meaning meter.new) ≡ terms_of (M.meaning meter.old) }
+    ensures terms { SameTerms M.meaning meter.old meter.new }
 {
     let mut answers = Vec::with_capacity(heap, arrivals.len())?;
     for arrival in arrivals {

@@ -9,7 +9,8 @@ impl Grains {
     pub(crate) fn fits_with(self, more: Grains, depth: Grains) -> bool
         ensures { result ≡ nat_le (self.0 + more.0) depth.0 }
     {
-        self.0 <= depth.0 && more.0 <= depth.0 - self.0
+        let room = depth.0.checked_sub(self.0);
+        room.is_some_and(|room| more.0 <= room)
     }
 }
 
@@ -18,12 +19,9 @@ impl Bucket {
         ensures { result.0 ≡ level self moment.0 }
     {
         let gap = moment.0.saturating_sub(self.last.0);
-        let leaked = self.limit.rate as u128 * gap as u128;
-        if leaked < self.fill.0 as u128 {
-            Grains(self.fill.0 - leaked as u64)
-        } else {
-            Grains(0)
-        }
+        // A product past 64 bits empties every bucket, and so does the largest number.
+        let leaked = self.limit.rate.saturating_mul(gap);
+        Grains(self.fill.0.saturating_sub(leaked))
     }
 
     pub(crate) fn has_room(self, moment: Moment, cost: Grains) -> bool
@@ -37,9 +35,9 @@ impl Bucket {
         ensures { result ≡ filled self moment.0 cost.0 }
     {
         Bucket {
-            limit: self.limit,
             fill: Grains(self.fill_at(moment).0 + cost.0),
             last: moment,
+            ..self
         }
     }
 }

@@ -1,34 +1,49 @@
 // The measures and the plain structs of a meter. No sum joins two measures: a number leaves its measure only at `.0`.
 
 // Microseconds since the epoch.
-#[derive(Clone, Copy)]
+#[derive(Clone, Copy, Default, PartialEq, Eq, PartialOrd, Ord, Debug)]
 pub struct Moment(pub u64);
 
 // A packet's size in bytes.
-#[derive(Clone, Copy)]
+#[derive(Clone, Copy, PartialEq, Eq, PartialOrd, Ord, Debug)]
 pub struct Size(pub u32);
 
 // Millionths of a byte: a rate of R bytes a second leaks R of them a microsecond.
-#[derive(Clone, Copy)]
+#[derive(Clone, Copy, Default, PartialEq, Eq, PartialOrd, Ord, Debug)]
 pub struct Grains(pub u64);
 
 // The colours at which a packet can be carried, and charged.
-#[derive(Clone, Copy, PartialEq, Debug)]
+#[derive(Clone, Copy, PartialEq, Eq, Debug)]
 pub enum Colour {
     Green,
     Yellow,
 }
 
-// The colours of a packet, as it arrives and as a meter alone leaves it.
-#[derive(Clone, Copy, PartialEq, Debug)]
+// The colours of packets and of marks: a packet's as it arrives, and as a meter alone leaves it. An enum and no option
+// of a `Colour`, since red has a name.
+#[derive(Clone, Copy, PartialEq, Eq, Debug)]
 pub enum PacketColour {
     Green,
     Yellow,
     Red,
 }
 
-// A packet before a meter.
-#[derive(Clone, Copy)]
+// Whether the colour with which a packet arrives is read, or every packet is taken as green.
+#[derive(Clone, Copy, PartialEq, Eq, Debug)]
+pub enum Mode {
+    Blind,
+    Aware,
+}
+
+// A packet as the meters see it.
+#[derive(Clone, Copy, PartialEq, Eq, Debug)]
+pub struct Load {
+    pub size: Size,
+    pub moment: Moment,
+}
+
+// A packet before a meter. Flat, as a line of arrivals is written: moment, size, colour; the meters' part is `load()`.
+#[derive(Clone, Copy, PartialEq, Eq, Debug)]
 pub struct Arrival {
     pub moment: Moment,
     pub size: Size,
@@ -36,7 +51,7 @@ pub struct Arrival {
 }
 
 // What a meter refuses.
-#[derive(Clone, Copy, PartialEq, Debug)]
+#[derive(Clone, Copy, PartialEq, Eq, Debug)]
 pub enum Refusal {
     // no bytes, or more than the largest size
     BadSize,
@@ -49,21 +64,21 @@ pub enum Refusal {
 }
 
 // What asking answers: whether the colour fits, and whether the cost would lift `all` over its depth.
-#[derive(Clone, Copy)]
+#[derive(Clone, Copy, PartialEq, Eq, Debug)]
 pub struct Fit {
     pub fits: bool,
     pub over: bool,
 }
 
 // A bucket's terms: grains that leak each microsecond, and the most that it holds.
-#[derive(Clone, Copy)]
+#[derive(Clone, Copy, PartialEq, Eq, Debug)]
 pub struct Limit {
     pub rate: u64,
     pub depth: Grains,
 }
 
 // A leaky bucket: its terms, its fill just after its last charge, and the moment of that.
-#[derive(Clone, Copy)]
+#[derive(Clone, Copy, PartialEq, Eq, Debug)]
 pub struct Bucket {
     pub limit: Limit,
     pub fill: Grains,
@@ -71,7 +86,7 @@ pub struct Bucket {
 }
 
 // What never changes in a meter. A packet of n bytes costs base + per_byte × n.
-#[derive(Clone, Copy)]
+#[derive(Clone, Copy, PartialEq, Eq, Debug)]
 pub struct Terms {
     pub base: Grains,
     pub per_byte: Grains,
@@ -82,7 +97,7 @@ pub struct Terms {
 
 // A meter as it stands, and so the meaning of every kind of meter. `all` counts every packet charged, `green` the
 // green ones; with an excess depth, `all` holds at most that much beyond `green`.
-#[derive(Clone, Copy)]
+#[derive(Clone, Copy, PartialEq, Eq, Debug)]
 pub struct State {
     pub base: Grains,
     pub per_byte: Grains,

@@ -2,7 +2,7 @@
 ghost use Rattle.std.specs.Prelude.{◌≡◌, ◌-◌, ◌≤◌, Ok};
 ghost use Rattle.meter.specs.Rules.{level, green_level, cost, in_grains, fits_by, unless, asked, charged, terms_of, number_of};
 
-use crate::measures::{Colour, Fit, Grains, Moment, Refusal, Size, State, Terms};
+use crate::measures::{Colour, Fit, Grains, Load, Moment, Refusal, Size, State, Terms};
 
 pub const LARGEST_SIZE: u32 = 65_535;
 
@@ -26,13 +26,8 @@ impl Terms {
     pub(crate) fn cost(self, size: Size) -> Option<Grains>
         ensures { result ≡ in_grains (cost self size.0) }
     {
-        let bytes = self.per_byte.0 as u128 * size.0 as u128;
-        let cost = self.base.0 as u128 + bytes;
-        if cost <= u64::MAX as u128 {
-            Some(Grains(cost as u64))
-        } else {
-            None
-        }
+        let bytes = self.per_byte.0.checked_mul(u64::from(size.0))?;
+        self.base.0.checked_add(bytes).map(Grains)
     }
 }
 
@@ -40,30 +35,26 @@ impl State {
     pub(crate) fn terms(self) -> Terms
         ensures { result ≡ terms_of self }
     {
-        let green = match self.green {
-            Some(g) => Some(g.limit),
-            None => None,
-        };
         Terms {
             base: self.base,
             per_byte: self.per_byte,
             all: self.all.limit,
-            green,
+            green: self.green.map(|g| g.limit),
             excess: self.excess,
         }
     }
 
     // Whether the size and the moment may be asked about.
-    fn admits(self, size: Size, moment: Moment) -> Result<(), Refusal>
-        ensures { result ≡ unless self size.0 moment.0 (Ok tt) }
+    fn admits(self, load: Load) -> Result<(), Refusal>
+        ensures { result ≡ unless self load.size.0 load.moment.0 (Ok tt) }
     {
-        if size.0 == 0 || size.0 > LARGEST_SIZE {
+        if !(1..=LARGEST_SIZE).contains(&load.size.0) {
             return Err(Refusal::BadSize);
         }
-        if moment.0 > LARGEST_MOMENT {
+        if load.moment.0 > LARGEST_MOMENT {
             return Err(Refusal::BadMoment);
         }
-        if moment.0 < self.all.last.0 {
+        if load.moment < self.all.last {
             return Err(Refusal::Backward);
         }
         Ok(())
@@ -73,67 +64,54 @@ impl State {
     fn beyond(self, moment: Moment) -> Grains
         ensures { result.0 ≡ level self.all moment.0 - green_level self.green moment.0 }
     {
-        let all = self.all.fill_at(moment);
-        match self.green {
-            Some(g) => Grains(all.0.saturating_sub(g.fill_at(moment).0)),
-            None => all,
-        }
+        let green = self.green.map_or(Grains(0), |g| g.fill_at(moment));
+        Grains(self.all.fill_at(moment).0.saturating_sub(green.0))
     }
 
     fn fits(self, cost: Grains, moment: Moment, colour: Colour) -> bool
         ensures { result ≡ fits_by (terms_of self) (level self.all moment.0) (green_level self.green moment.0) cost.0 colour }
     {
-        if !self.all.has_room(moment, cost) {
-            return false;
-        }
-        match colour {
-            Colour::Green => match self.green {
-                Some(g) => g.has_room(moment, cost),
-                None => true,
-            },
-            Colour::Yellow => match self.excess {
-                Some(e) => self.beyond(moment).fits_with(cost, e),
-                None => true,
-            },
-        }
+        self.all.has_room(moment, cost)
+            && match colour {
+                Colour::Green => self.green.is_none_or(|g| g.has_room(moment, cost)),
+                Colour::Yellow => self
+                    .excess
+                    .is_none_or(|e| self.beyond(moment).fits_with(cost, e)),
+            }
     }
 
-    pub(crate) fn ask(self, size: Size, moment: Moment, colour: Colour) -> Result<Fit, Refusal>
-        ensures { result ≡ asked self size.0 moment.0 colour }
+    pub(crate) fn ask(self, load: Load, colour: Colour) -> Result<Fit, Refusal>
+        ensures { result ≡ asked self load.size.0 load.moment.0 colour }
     {
-        self.admits(size, moment)?;
-        match self.terms().cost(size) {
-            Some(cost) => Ok(Fit {
-                fits: self.fits(cost, moment, colour),
-                over: !self.all.has_room(moment, cost),
-            }),
-            None => Ok(Fit {
+        self.admits(load)?;
+        let Some(cost) = self.terms().cost(load.size) else {
+            return Ok(Fit {
                 fits: false,
                 over: true,
-            }),
-        }
+            });
+        };
+        Ok(Fit {
+            fits: self.fits(cost, load.moment, colour),
+            over: !self.all.has_room(load.moment, cost),
+        })
     }
 
-    pub(crate) fn charge(self, size: Size, moment: Moment, colour: Colour) -> Result<State, Refusal>
-        ensures { result ≡ charged self size.0 moment.0 colour }
+    pub(crate) fn charge(self, load: Load, colour: Colour) -> Result<State, Refusal>
+        ensures { result ≡ charged self load.size.0 load.moment.0 colour }
     {
-        self.admits(size, moment)?;
-        let Some(cost) = self.terms().cost(size) else {
-            return Err(Refusal::Unfit);
-        };
-        if !self.fits(cost, moment, colour) {
+        self.admits(load)?;
+        let cost = self.terms().cost(load.size).ok_or(Refusal::Unfit)?;
+        if !self.fits(cost, load.moment, colour) {
             return Err(Refusal::Unfit);
         }
         let green = match (colour, self.green) {
-            (Colour::Green, Some(g)) => Some(g.charged(moment, cost)),
+            (Colour::Green, Some(g)) => Some(g.charged(load.moment, cost)),
             (_, green) => green,
         };
         Ok(State {
-            base: self.base,
-            per_byte: self.per_byte,
-            all: self.all.charged(moment, cost),
+            all: self.all.charged(load.moment, cost),
             green,
-            excess: self.excess,
+            ..self
         })
     }
 }

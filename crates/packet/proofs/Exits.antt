@@ -1,12 +1,12 @@
 -- Each way out of marking.
 -- Assumes nothing.
-use Rattle.std.proofs.Common.{◌≡◌, ℕ, ◌<◌, ◌≤◌, Bool, true, false, cond, eqb, ltb, List, ◌++◌, length, drop, IfOk, Ok, Err, Result, sym, refl, ap, ◌∙◌, subst, arith}
+use Rattle.std.proofs.Common.{◌≡◌, ℕ, ◌≤◌, Bool, true, false, cond, eqb, ltb, List, ◌++◌, length, drop, IfOk, Ok, Err, Result, sym, refl, ap, ◌∙◌, subst}
 use Rattle.std.proofs.lemmas.List.{length-set, take_at}
-use Rattle.std.proofs.lemmas.Bool.{lt-ltb, le-ltb}
+use Rattle.std.proofs.lemmas.Bool.{le-ltb}
 use Rattle.packet.specs.declared.kinds.Refusal.{Refusal}
 use Rattle.packet.specs.declared.kinds.Refusal.TheVariants.{ShortBuffer}
 use Rattle.packet.specs.declared.kinds.Class.{Class}
-use Rattle.packet.specs.declared.kinds.MarkColour.{MarkColour}
+use Rattle.meter.specs.declared.measures.PacketColour.{PacketColour}
 use Rattle.packet.specs.declared.kinds.Packet.{Packet}
 use Rattle.packet.specs.declared.kinds.Packet.TheVariants.{Ipv4, Other}
 use Rattle.packet.specs.declared.kinds.Written.{Written}
@@ -40,7 +40,7 @@ made_any : {X Y : Type 0} (r : Result X Y) (P : Type 0) → P → IfOk r (λ _. 
 made_any (Ok x) P p = p
 made_any (Err y) P p = tt
 
-module _ (m : Marks) (c : Class) (k : MarkColour) (f b : List ℕ) where
+module _ (m : Marks) (c : Class) (k : PacketColour) (f b : List ℕ) where
   pub done : (b' : List ℕ) (r : Result Written Refusal) → r ≡ marking_of m c k f b → b' ≡ left_in m c k f b → Marking m c k f b b' r
   done b' r e e' =
       record {
@@ -50,9 +50,6 @@ module _ (m : Marks) (c : Class) (k : MarkColour) (f b : List ℕ) where
             (subst (λ b'. IfOk (marking_of m c k f b) (λ w. written_of w f b' ≡ out_of m c k f)) (sym e') (out_bytes (code m c k) f b (read_of f)));
         law = made_any r _ (out_lawful m c k f (read_of f) refl);
       }
-
-  pub too_short : (p : Packet) → Ok p ≡ read_of f → length b < length f → Marking m c k f b b (Err ShortBuffer)
-  too_short p w h = done b (Err ShortBuffer) (rw (sym w, lt-ltb (length b) (length f) h)) (rw (sym w, lt-ltb (length b) (length f) h))
 
   pub as_it_came : (p : Packet) → Ok p ≡ read_of f → length f ≤ length b → AsItCame ≡ chosen (code m c k) p → Marking m c k f b b (Ok AsItCame)
   as_it_came p w le e =
@@ -70,4 +67,4 @@ module _ (m : Marks) (c : Class) (k : MarkColour) (f b : List ℕ) where
 -- what is copied is an IPv4 packet
 pub marked_right : (f : List ℕ) (x : ℕ) (p : Packet) → Ok p ≡ read_of f → Marked ≡ chosen x p → header_right (packet_of f) ≡ true
 marked_right f x (Ipv4 h) w e = (read_ip f h (sym w)).0.right
-marked_right f x (Other s) w e = absurd (let z : ◌≡◌ {A = ℕ} 0 1 = cc in omega arith)
+marked_right f x (Other s) w e = cc

@@ -6,7 +6,7 @@ use Rattle.std.proofs.lemmas.Bool.{ltb-false, le-ltb, eqb-true, eq-eqb, cond_bot
 use Rattle.packet.specs.declared.kinds.Refusal.{Refusal}
 use Rattle.packet.specs.declared.kinds.Refusal.TheVariants.{ShortFrame, BadHeader}
 use Rattle.packet.specs.declared.kinds.Class.{Class}
-use Rattle.packet.specs.declared.kinds.MarkColour.{MarkColour}
+use Rattle.meter.specs.declared.measures.PacketColour.{PacketColour}
 use Rattle.packet.specs.declared.kinds.Header.{Header}
 use Rattle.packet.specs.declared.kinds.Packet.{Packet}
 use Rattle.packet.specs.declared.kinds.Packet.TheVariants.{Ipv4, Other}
@@ -31,9 +31,9 @@ read_ip f h e = go _ _ _ refl refl refl e
     go : (a b d : Bool) → ltb (length f) link_length ≡ a → eqb (ether_type f) ipv4 ≡ b → header_right (packet_of f) ≡ d →
         cond a (Err ShortFrame) (cond b (ip_packet (cond d (Ok (header_fields (packet_of f))) (Err BadHeader))) (Ok (Other (station_of f)))) ≡ Ok (Ipv4 h) →
         Ip f × (h ≡ header_fields (packet_of f))
-    go true b d p q r w = absurd (let z : ◌≡◌ {A = ℕ} 0 1 = cc in omega arith)
-    go false false d p q r w = absurd (let z : ◌≡◌ {A = ℕ} 0 1 = cc in omega arith)
-    go false true false p q r w = absurd (let z : ◌≡◌ {A = ℕ} 0 1 = cc in omega arith)
+    go true b d p q r w = cc
+    go false false d p q r w = cc
+    go false true false p q r w = cc
     go false true true p q r w = (record { long = ltb-false _ _ p; kind = eqb-true _ _ q; right = r }, cc)
 
 ip_read : (f : List ℕ) → Ip f → read_of f ≡ Ok (Ipv4 (header_fields (packet_of f)))
@@ -127,7 +127,7 @@ module _ (f : List ℕ) (x : ℕ) (i : Ip f) where
       (λ j le. in_packet j (λ e. omega arith) (λ e. omega arith) (λ e. omega arith))
       (in_packet 9 (λ e. omega arith) (λ e. omega arith) (λ e. omega arith))
 
-module _ (m : Marks) (c : Class) (k : MarkColour) (f : List ℕ) (i : Ip f) where
+module _ (m : Marks) (c : Class) (k : PacketColour) (f : List ℕ) (i : Ip f) where
   reads_as : (out : List ℕ) → Ip out → conversation_of (packet_of out) ≡ conversation_of (packet_of f) → mark_of (packet_of out) ≡ code m c k →
       read_of out ≡ Ok (Ipv4 (record { key = conversation_of (packet_of f); mark = code m c k }))
   reads_as out o e e' = ip_read out o ∙ cc (e, e')
@@ -165,7 +165,7 @@ module _ (m : Marks) (c : Class) (k : MarkColour) (f : List ℕ) (i : Ip f) wher
       }
 
 -- whatever is written of a frame, the law holds of it
-pub out_lawful : (m : Marks) (c : Class) (k : MarkColour) (f : List ℕ) (r : Result Packet Refusal) → read_of f ≡ r → Lawful m c k f (out_by (code m c k) f r) r
+pub out_lawful : (m : Marks) (c : Class) (k : PacketColour) (f : List ℕ) (r : Result Packet Refusal) → read_of f ≡ r → Lawful m c k f (out_by (code m c k) f r) r
 out_lawful m c k f (Err e) w = tt
 out_lawful m c k f (Ok (Other s)) w = refl
 out_lawful m c k f (Ok (Ipv4 h)) w =

@@ -4,9 +4,9 @@
 -- SumFolds: the sum in ones' complement is the plain sum with its carries added back in
 -- WordsSumToOnes: all words of a right header, the checksum among them, sum to sixteen ones
 -- Assumes nothing.
-use Rattle.std.specs.Prelude.{◌≡◌, ℕ, ◌/◌, ◌%◌, ◌<◌, ◌≤◌, true, List, length, slice_index}
+use Rattle.std.specs.Prelude.{◌≡◌, ℕ, ◌/◌, ◌%◌, ◌<◌, ◌≤◌, true, List, length, sum, slice_index}
 use Rattle.packet.specs.Layout.{byte, field16, total_at, checksum_at, words_of, ones_sum, header_length, header_bytes, checksum_of, header_right}
-use Rattle.packet.specs.Sums.{total, Folds}
+use Rattle.packet.specs.Sums.{Folds}
 use Rattle.packet.specs.Marking.{with_field16}
 
 pub record AllButChecksum (p : List ℕ) : Type 0 where
@@ -19,7 +19,7 @@ abbrev pub ChecksumPasses : Type 0
 ChecksumPasses = (p : List ℕ) → AllButChecksum p → header_right (with_field16 p checksum_at (checksum_of (header_bytes p))) ≡ true
 
 abbrev pub SumFolds : Type 0
-SumFolds = (ws : List ℕ) → ((i : ℕ) → slice_index ws i < 65536) → Folds (total ws) (ones_sum ws)
+SumFolds = (ws : List ℕ) → ((i : ℕ) → slice_index ws i < 65536) → Folds (sum ws) (ones_sum ws)
 
 abbrev pub WordsSumToOnes : Type 0
 WordsSumToOnes =

@@ -12,7 +12,7 @@ use Rattle.std.specs.Prelude.{◌≡◌, ℕ, ◌+◌, ◌*◌, ◌/◌, ◌%◌
 use Rattle.packet.specs.declared.kinds.Refusal.{Refusal}
 use Rattle.packet.specs.declared.kinds.Refusal.TheVariants.{ShortBuffer}
 use Rattle.packet.specs.declared.kinds.Class.{Class}
-use Rattle.packet.specs.declared.kinds.MarkColour.{MarkColour}
+use Rattle.meter.specs.declared.measures.PacketColour.{PacketColour}
 use Rattle.packet.specs.declared.kinds.Packet.{Packet}
 use Rattle.packet.specs.declared.kinds.Packet.TheVariants.{Ipv4, Other}
 use Rattle.packet.specs.declared.kinds.Written.{Written}
@@ -50,7 +50,7 @@ abbrev pub answered : ℕ → ℕ → ℕ → Result Packet Refusal → Result W
 answered x size room (Err e) = Err e
 answered x size room (Ok p) = cond (nat_lt room size) (Err ShortBuffer) (Ok (chosen x p))
 
-abbrev pub marking_of : Marks → Class → MarkColour → List ℕ → List ℕ → Result Written Refusal
+abbrev pub marking_of : Marks → Class → PacketColour → List ℕ → List ℕ → Result Written Refusal
 marking_of m c k f b = answered (code m c k) (length f) (length b) (read_of f)
 
 -- the marked copy in front, and past it what was there
@@ -59,7 +59,7 @@ left_by (Err e) copy b = b
 left_by (Ok AsItCame) copy b = b
 left_by (Ok Marked) copy b = copy ++ drop (length copy) b
 
-abbrev pub left_in : Marks → Class → MarkColour → List ℕ → List ℕ → List ℕ
+abbrev pub left_in : Marks → Class → PacketColour → List ℕ → List ℕ → List ℕ
 left_in m c k f b = left_by (marking_of m c k f b) (marked f (code m c k)) b
 
 -- the frame itself, or as many bytes from the front of the buffer
@@ -72,11 +72,11 @@ out_by x f (Err e) = f
 out_by x f (Ok (Ipv4 h)) = cond (h.mark == x) f (marked f x)
 out_by x f (Ok (Other s)) = f
 
-abbrev pub out_of : Marks → Class → MarkColour → List ℕ → List ℕ
+abbrev pub out_of : Marks → Class → PacketColour → List ℕ → List ℕ
 out_of m c k f = out_by (code m c k) f (read_of f)
 
 -- what is written of an IPv4 packet f
-pub record Remarked (m : Marks) (c : Class) (k : MarkColour) (f out : List ℕ) : Type 0 where
+pub record Remarked (m : Marks) (c : Class) (k : PacketColour) (f out : List ℕ) : Type 0 where
   -- it differs from the frame in its mark and its checksum only, and the two low bits beside the mark stay
   pub long : length out ≡ length f
   pub elsewhere : (i : ℕ) → (i ≢ mark_place) → (i ≢ checksum_place) → (i ≢ checksum_place + 1) → byte out i ≡ byte f i
@@ -89,13 +89,13 @@ pub record Remarked (m : Marks) (c : Class) (k : MarkColour) (f out : List ℕ) 
   pub colour : colour_of m (mark_of (packet_of out)) ≡ k
 
 -- a station is written as it came
-abbrev pub Lawful : Marks → Class → MarkColour → List ℕ → List ℕ → Result Packet Refusal → Type 0
+abbrev pub Lawful : Marks → Class → PacketColour → List ℕ → List ℕ → Result Packet Refusal → Type 0
 Lawful m c k f out (Err e) = Unit {0}
 Lawful m c k f out (Ok (Ipv4 h)) = Remarked m c k f out
 Lawful m c k f out (Ok (Other s)) = out ≡ f
 
 -- what marking answers, leaves in the buffer and has written; b is the buffer before, b' after
-pub record Marking (m : Marks) (c : Class) (k : MarkColour) (f b b' : List ℕ) (r : Result Written Refusal) : Type 0 where
+pub record Marking (m : Marks) (c : Class) (k : PacketColour) (f b b' : List ℕ) (r : Result Written Refusal) : Type 0 where
   pub value : r ≡ marking_of m c k f b
   pub after : b' ≡ left_in m c k f b
   pub bytes : IfOk r (λ w. written_of w f b' ≡ out_of m c k f)

@@ -1,12 +1,7 @@
 -- What folding a sum of 16-bit words means.
--- total: the plain sum of words
 -- Folds: a number with its carries added back in, until sixteen bits hold it
 -- Assumes nothing.
-use Rattle.std.specs.Prelude.{◌≡◌, ℕ, ◌+◌, ◌*◌, ◌≤◌, List, [], ◌∷◌}
-
-abbrev pub total : List ℕ → ℕ
-total [] = 0
-total (w ∷ ws) = w + total ws
+use Rattle.std.specs.Prelude.{◌≡◌, ℕ, ◌+◌, ◌*◌, ◌≤◌}
 
 -- it differs from n by carries, each worth 65,536 - 1, and is 0 only where n is
 pub record Folds (n folded : ℕ) : Type 0 where

@@ -1,6 +1,6 @@
 // The headers of a frame, and the key that they give it.
-ghost use Rattle.std.specs.Prelude.{◌≡◌, ◌+◌, ◌<◌, ◌≤◌, true, length, MatchResult};
-ghost use Rattle.packet.specs.Layout.{link_length, Linked, field16, field32, header_right, header_of, read_of, key_in, key_of};
+ghost use Rattle.std.specs.Prelude.{◌≡◌, ◌+◌, ◌<◌, ◌≤◌, true, length, take, drop, MatchResult};
+ghost use Rattle.packet.specs.Layout.{link_length, Linked, header_right, header_of, read_of, key_in, key_of};
 
 use crate::checksum::checksum;
 use crate::kinds::{Address, Conversation, Header, Key, Packet, Refusal, Station};
@@ -43,8 +43,7 @@ pub fn read(frame: &[u8]) -> Result<Packet, Refusal>
 {
     let link = link_header(frame)?;
     if link.ether_type == IPV4 {
-        let header = ip_header(link.packet)?;
-        Ok(Packet::Ipv4(header))
+        ip_header(link.packet).map(Packet::Ipv4)
     } else {
         Ok(Packet::Other(Station {
             source: link.source,
@@ -56,8 +55,7 @@ pub fn read(frame: &[u8]) -> Result<Packet, Refusal>
 pub fn key_of(frame: &[u8]) -> Result<Key, Refusal>
     ensures { result ≡ key_of frame.now }
 {
-    let packet = read(frame)?;
-    Ok(packet.key())
+    read(frame).map(|packet| packet.key())
 }
 
 impl Packet {
@@ -72,7 +70,8 @@ impl Packet {
     }
 }
 
-fn link_header<'a>(frame: &'a [u8]) -> Result<Ethernet<'a>, Refusal>
+#[tactic(auto, using(crate::proofs::Bytes::source_is))]
+fn link_header(frame: &[u8]) -> Result<Ethernet<'_>, Refusal>
     ensures { MatchResult result (λ e. Linked frame.now e.packet.now e.source e.ether_type) (λ e. (e ≡ Refusal.ShortFrame) × (length frame.now < link_length)) }
 {
     let [
@@ -109,8 +108,8 @@ fn ip_header(packet: &[u8]) -> Result<Header, Refusal>
         return Err(Refusal::BadHeader);
     }
     let key = Conversation {
-        source: address_at(packet, SOURCE),
-        destination: address_at(packet, DESTINATION),
+        source: Address(u32::from_be_bytes(array_at(packet, SOURCE))),
+        destination: Address(u32::from_be_bytes(array_at(packet, DESTINATION))),
         protocol: packet[PROTOCOL],
     };
     Ok(Header {
@@ -127,25 +126,22 @@ fn is_right(packet: &[u8]) -> bool
         return false;
     };
     let words = *first % 16;
-    let length = 4 * words as usize;
-    if *first / 16 != VERSION || words < FEWEST_WORDS || packet.len() < length {
+    if *first / 16 != VERSION || words < FEWEST_WORDS {
         return false;
     }
-    let total = u16_at(packet, TOTAL_LENGTH);
-    let stored = u16_at(packet, CHECKSUM);
-    length <= total as usize && stored == checksum(&packet[0..length])
+    let length = 4 * usize::from(words);
+    let Some(header) = packet.get(..length) else {
+        return false;
+    };
+    let total = u16::from_be_bytes(array_at(packet, TOTAL_LENGTH));
+    let stored = u16::from_be_bytes(array_at(packet, CHECKSUM));
+    length <= usize::from(total) && stored == checksum(header)
 }
 
-fn u16_at(packet: &[u8], at: usize) -> u16
-    requires { at + 2 ≤ length packet.now }
-    ensures { result ≡ field16 packet.now at }
+// So many bytes from a place on.
+fn array_at<const N: usize>(packet: &[u8], at: usize) -> [u8; N]
+    requires { at + N ≤ length packet.now }
+    ensures { result ≡ take N (drop at packet.now) }
 {
-    u16::from_be_bytes([packet[at], packet[at + 1]])
-}
-
-fn address_at(packet: &[u8], at: usize) -> Address
-    requires { at + 4 ≤ length packet.now }
-    ensures { result.0 ≡ field32 packet.now at }
-{
-    Address(u32::from_be_bytes([packet[at], packet[at + 1], packet[at + 2], packet[at + 3]]))
+    *packet[at..].first_chunk().unwrap()
 }

@@ -1,9 +1,9 @@
 // The plain types: refusals, colours and classes, keys, and what the headers of a frame say.
-ghost use Rattle.std.specs.Prelude.{◌≡◌, ◌<◌, ◌⊎◌, MatchOption};
-ghost use Rattle.packet.specs.Kinds.{number_of, class_number, class_of};
+ghost use Rattle.std.specs.Prelude.{◌≡◌, ◌<◌, ◌⊎◌, MatchResult};
+ghost use Rattle.packet.specs.Kinds.{number_of, class_number, class_or_unknown};
 
 // Why a frame is not read, or not marked.
-#[derive(Clone, Copy, PartialEq, Debug)]
+#[derive(Clone, Copy, PartialEq, Eq, Debug)]
 pub enum Refusal {
     // fewer bytes captured than the link header has
     ShortFrame,
@@ -13,16 +13,8 @@ pub enum Refusal {
     ShortBuffer,
 }
 
-// The colours that a mark can have.
-#[derive(Clone, Copy, PartialEq, Debug)]
-pub enum MarkColour {
-    Green,
-    Yellow,
-    Red,
-}
-
 // The classes of service.
-#[derive(Clone, Copy, PartialEq, Debug)]
+#[derive(Clone, Copy, PartialEq, Eq, Debug)]
 pub enum Class {
     One,
     Two,
@@ -30,12 +22,16 @@ pub enum Class {
     Four,
 }
 
+// A number that no class has.
+#[derive(Clone, Copy, PartialEq, Eq, Debug)]
+pub struct UnknownClass(pub u8);
+
 // An IPv4 address, its first byte the highest.
-#[derive(Clone, Copy)]
+#[derive(Clone, Copy, PartialEq, Eq, Debug)]
 pub struct Address(pub u32);
 
 // The key of an IPv4 packet.
-#[derive(Clone, Copy)]
+#[derive(Clone, Copy, PartialEq, Eq, Debug)]
 pub struct Conversation {
     pub source: Address,
     pub destination: Address,
@@ -43,20 +39,20 @@ pub struct Conversation {
 }
 
 // The key of any other frame: the hardware address that sent it.
-#[derive(Clone, Copy)]
+#[derive(Clone, Copy, PartialEq, Eq, Debug)]
 pub struct Station {
     pub source: [u8; 6],
 }
 
 // What a flow is known by.
-#[derive(Clone, Copy)]
+#[derive(Clone, Copy, PartialEq, Eq, Debug)]
 pub enum Key {
     Conversation(Conversation),
     Station(Station),
 }
 
 // What the policer asks of an IPv4 header.
-#[derive(Clone, Copy)]
+#[derive(Clone, Copy, PartialEq, Eq, Debug)]
 pub struct Header {
     pub key: Conversation,
     // the six high bits of the type of service
@@ -64,14 +60,14 @@ pub struct Header {
 }
 
 // What the headers of a frame say.
-#[derive(Clone, Copy)]
+#[derive(Clone, Copy, PartialEq, Eq, Debug)]
 pub enum Packet {
     Ipv4(Header),
     Other(Station),
 }
 
-// Which bytes are to be written of a frame.
-#[derive(Clone, Copy, PartialEq, Debug)]
+// Which bytes are to be written of a frame: one reading call over both slices hands them out, and nothing is allocated.
+#[derive(Clone, Copy, PartialEq, Eq, Debug)]
 pub enum Written {
     // the frame itself
     AsItCame,
@@ -92,17 +88,26 @@ impl Refusal {
 }
 
 impl Class {
-    // None unless the number is 1 to 4.
-    pub fn new(number: u8) -> Option<Class>
-        ensures value { result ≡ class_of number }
-        ensures cases { MatchOption result ((number < 1) ⊎ (4 < number)) (λ c. class_number c ≡ number) }
+    // All four, in their order.
+    pub(crate) const ALL: [Class; 4] = [Class::One, Class::Two, Class::Three, Class::Four];
+}
+
+impl TryFrom<u8> for Class {
+    type Error = UnknownClass;
+
+    ghost try_from_gives = { λ number r. r ≡ class_or_unknown number };
+
+    // An error unless the number is 1 to 4.
+    fn try_from(number: u8) -> Result<Class, UnknownClass>
+        ensures value { result ≡ class_or_unknown number }
+        ensures cases { MatchResult result (λ c. class_number c ≡ number) (λ e. (e.0 ≡ number) × ((number < 1) ⊎ (4 < number))) }
     {
         match number {
-            1 => Some(Class::One),
-            2 => Some(Class::Two),
-            3 => Some(Class::Three),
-            4 => Some(Class::Four),
-            _ => None,
+            1 => Ok(Class::One),
+            2 => Ok(Class::Two),
+            3 => Ok(Class::Three),
+            4 => Ok(Class::Four),
+            _ => Err(UnknownClass(number)),
         }
     }
 }

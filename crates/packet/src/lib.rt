@@ -2,6 +2,7 @@
 #![tactic(auto)]
 
 mod checksum;
+mod class_marks;
 pub mod codes;
 pub mod headers;
 pub mod kinds;

@@ -5,8 +5,9 @@ ghost use Rattle.packet.specs.Marking.{chosen, marked, written_of, Marking};
 
 use crate::checksum::checksum;
 use crate::headers::{CHECKSUM, LINK_HEADER, SERVICE, read};
-use crate::kinds::{Class, MarkColour, Packet, Refusal, Written};
+use crate::kinds::{Class, Packet, Refusal, Written};
 use crate::marks::Marks;
+use meter::measures::PacketColour;
 
 // Where a frame has the byte of its mark.
 const MARK: usize = LINK_HEADER + SERVICE;
@@ -16,11 +17,12 @@ const FRAME_CHECKSUM: usize = LINK_HEADER + CHECKSUM;
 
 // Gives an IPv4 packet the mark of a class and colour, in a copy at the front of the buffer. Where it has that mark,
 // and for any other frame, there is no copy and the buffer stays.
+#[tactic(auto, using(crate::proofs::Exits::copied, crate::proofs::Exits::marked_right))]
 pub fn mark(
     marks: &Marks,
     frame: &[u8],
     class: Class,
-    colour: MarkColour,
+    colour: PacketColour,
     buffer: &mut [u8],
 ) -> Result<Written, Refusal>
     ensures { Marking marks.now class colour frame.now buffer.old buffer.new result }
@@ -33,7 +35,7 @@ pub fn mark(
     let Written::Marked = choose(packet, code) else {
         return Ok(Written::AsItCame);
     };
-    let copy = &mut buffer[0..frame.len()];
+    let copy = &mut buffer[..frame.len()];
     copy.copy_from_slice(frame);
     put_mark(copy, code);
     Ok(Written::Marked)
@@ -46,7 +48,7 @@ impl Written {
     {
         match self {
             Written::AsItCame => frame,
-            Written::Marked => &buffer[0..frame.len().min(buffer.len())],
+            Written::Marked => &buffer[..frame.len().min(buffer.len())],
         }
     }
 }
@@ -68,7 +70,7 @@ fn put_mark(frame: &mut [u8], code: u8)
     ensures { frame.new ≡ marked frame.old code }
 {
     frame[MARK] = 4 * code + frame[MARK] % 4;
-    let end = LINK_HEADER + 4 * (frame[LINK_HEADER] % 16) as usize;
+    let end = LINK_HEADER + 4 * usize::from(frame[LINK_HEADER] % 16);
     let [high, low] = checksum(&frame[LINK_HEADER..end]).to_be_bytes();
     frame[FRAME_CHECKSUM] = high;
     frame[FRAME_CHECKSUM + 1] = low;

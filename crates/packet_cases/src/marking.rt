@@ -1,29 +1,26 @@
 // What marking writes, leaves and refuses.
 use crate::frames::{OPTIONS, PUBLISHED, other, published};
+use meter::measures::PacketColour;
 use packet::headers::read;
-use packet::kinds::{Class, MarkColour, Refusal, Written};
+use packet::kinds::{Class, Refusal, Written};
 use packet::marking::mark;
 use packet::marks::Marks;
 use std::process::Abort;
 use std::test::Fail;
-
-fn same<'a>(a: &'a [u8], b: &'a [u8]) -> bool {
-    a == b
-}
 
 // The frame is written as expected, with nothing past it touched; is it the copy?
 fn writes(
     rt: &impl Abort,
     frame: &[u8],
     class: Class,
-    colour: MarkColour,
+    colour: PacketColour,
     expected: &[u8],
 ) -> Result<Written, Fail> {
     let marks = Marks::assured_forwarding();
     let mut buffer = [0xee; 61];
     let written = mark(&marks, frame, class, colour, &mut buffer)?;
     let out = written.bytes(frame, &buffer);
-    assert!(rt; same(out, expected));
+    assert_eq!(rt; out, expected);
     assert_eq!(rt; buffer[60], 0xee);
     if written == Written::AsItCame {
         assert_eq!(rt; buffer, [0xee; 61]);
@@ -39,7 +36,7 @@ fn copies(rt: HostRuntime) -> Result<(), Fail> {
         &rt,
         &PUBLISHED,
         Class::One,
-        MarkColour::Green,
+        PacketColour::Green,
         &published(0x28, [0xb8, 0x39]),
     )?;
     assert_eq!(rt; copy, Written::Marked);
@@ -47,7 +44,7 @@ fn copies(rt: HostRuntime) -> Result<(), Fail> {
         &rt,
         &published(0x28, [0xb8, 0x39]),
         Class::Two,
-        MarkColour::Green,
+        PacketColour::Green,
         &published(0x48, [0xb8, 0x19]),
     )?;
     assert_eq!(rt; copy, Written::Marked, "another class");
@@ -55,7 +52,7 @@ fn copies(rt: HostRuntime) -> Result<(), Fail> {
         &rt,
         &published(1, [0xb8, 0x60]),
         Class::Four,
-        MarkColour::Red,
+        PacketColour::Red,
         &published(0x99, [0xb7, 0xc8]),
     )?;
     assert_eq!(rt; copy, Written::Marked, "two low bits stay");
@@ -64,7 +61,7 @@ fn copies(rt: HostRuntime) -> Result<(), Fail> {
     expected[24] = 0xd1;
     expected[25] = 0x6e;
     assert_eq!(rt;
-        writes(&rt, &OPTIONS, Class::Three, MarkColour::Yellow, &expected)?,
+        writes(&rt, &OPTIONS, Class::Three, PacketColour::Yellow, &expected)?,
         Written::Marked
     );
     Ok(())
@@ -74,11 +71,11 @@ fn copies(rt: HostRuntime) -> Result<(), Fail> {
 fn no_copy(rt: HostRuntime) -> Result<(), Fail> {
     let green = published(0x2b, [0xb8, 0x36]);
     assert_eq!(rt;
-        writes(&rt, &green, Class::One, MarkColour::Green, &green)?,
+        writes(&rt, &green, Class::One, PacketColour::Green, &green)?,
         Written::AsItCame
     );
     assert_eq!(rt;
-        writes(&rt, &other(), Class::One, MarkColour::Green, &other())?,
+        writes(&rt, &other(), Class::One, PacketColour::Green, &other())?,
         Written::AsItCame
     );
     Ok(())
@@ -88,7 +85,7 @@ fn no_copy(rt: HostRuntime) -> Result<(), Fail> {
 fn refuses(rt: &impl Abort, frame: &[u8], bytes: &mut [u8], refusal: Refusal) {
     let marks = Marks::assured_forwarding();
     assert_eq!(rt;
-        mark(&marks, frame, Class::One, MarkColour::Green, bytes),
+        mark(&marks, frame, Class::One, PacketColour::Green, bytes),
         Err(refusal)
     );
 }
@@ -96,8 +93,8 @@ fn refuses(rt: &impl Abort, frame: &[u8], bytes: &mut [u8], refusal: Refusal) {
 #[test]
 fn refusals_in_order(rt: HostRuntime) {
     let mut short = [0xee; 12];
-    refuses(&rt, &PUBLISHED[0..13], &mut short, Refusal::ShortFrame);
-    refuses(&rt, &PUBLISHED[0..33], &mut short, Refusal::BadHeader);
+    refuses(&rt, &PUBLISHED[..13], &mut short, Refusal::ShortFrame);
+    refuses(&rt, &PUBLISHED[..33], &mut short, Refusal::BadHeader);
     refuses(&rt, &PUBLISHED, &mut short, Refusal::ShortBuffer);
     refuses(&rt, &other(), &mut short, Refusal::ShortBuffer);
     refuses(
@@ -113,13 +110,13 @@ fn refusals_in_order(rt: HostRuntime) {
 fn colours_of_marks(rt: HostRuntime) {
     let marks = Marks::assured_forwarding();
     for (code, colour) in [
-        (0, MarkColour::Green),
-        (10, MarkColour::Green),
-        (12, MarkColour::Yellow),
-        (22, MarkColour::Red),
-        (28, MarkColour::Yellow),
-        (38, MarkColour::Red),
-        (46, MarkColour::Green),
+        (0, PacketColour::Green),
+        (10, PacketColour::Green),
+        (12, PacketColour::Yellow),
+        (22, PacketColour::Red),
+        (28, PacketColour::Yellow),
+        (38, PacketColour::Red),
+        (46, PacketColour::Green),
     ] {
         assert_eq!(rt; marks.colour_of(code), colour);
     }

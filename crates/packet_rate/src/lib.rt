@@ -14,7 +14,7 @@ use std::alloc::{AllocError, Global};
 const GRAINS_A_PACKET: u64 = 1_000_000;
 
 // Packets a second, and the most of them at once. A rate of 0 stands for 1, a fill above the depth for the depth.
-#[derive(Clone, Copy)]
+#[derive(Clone, Copy, PartialEq, Eq, Debug)]
 pub struct PacketRate {
     pub rate: u32,
     pub burst: u32,
@@ -28,16 +28,16 @@ impl Meter for PacketRate {
     ghost sound = { Prim.search rules };
 
     fn state(&self) -> State {
-        let depth = self.burst as u64 * GRAINS_A_PACKET;
+        let depth = Grains(u64::from(self.burst) * GRAINS_A_PACKET);
         State {
             base: Grains(GRAINS_A_PACKET),
             per_byte: Grains(0),
             all: Bucket {
                 limit: Limit {
-                    rate: self.rate.max(1) as u64,
-                    depth: Grains(depth),
+                    rate: u64::from(self.rate.max(1)),
+                    depth,
                 },
-                fill: Grains(self.fill.0.min(depth)),
+                fill: self.fill.min(depth),
                 last: self.last,
             },
             green: None,
@@ -46,6 +46,7 @@ impl Meter for PacketRate {
     }
 
     fn store(&mut self, state: State) {
+        // By hand: the five kinds' own `Level` is not known here, where only the interface is.
         self.fill = state.all.fill;
         self.last = state.all.last;
     }

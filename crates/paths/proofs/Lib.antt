@@ -1,2 +1,2 @@
 pub mod Numbered
-pub mod Firsts
+pub mod Lowest

@@ -1,26 +1,20 @@
 -- The meter of a number, and one that is charged. Assumes nothing.
-use Rattle.std.proofs.Common.{◌≡◌, ℕ, ◌-◌, ◌<◌, ◌≤◌, eqb, List, map, length, get_or, set, Some, None, Ok, Err, Result, sym, ap, ◌∙◌, arith}
+use Rattle.std.proofs.Common.{◌≡◌, ℕ, ◌+◌, ◌-◌, ◌<◌, eqb, List, map, length, get_or, set, Some, Ok, Err, Result, sym, ap, ◌∙◌, arith}
 use Rattle.std.proofs.lemmas.List.{length-map, get_or-map, map-set}
-use Rattle.std.proofs.lemmas.Option.{slice_get-get_or, slice_get_past}
-use Rattle.std.proofs.lemmas.Bool.{cond-true, cond-false, ne_eqb, eq-eqb}
+use Rattle.std.proofs.lemmas.Option.{slice_get-get_or}
+use Rattle.std.proofs.lemmas.Bool.{cond-false, ne_eqb}
 use Rattle.std.specs.List.{slice_get}
 use Rattle.meter.specs.declared.measures.Colour.{Colour}
+use Rattle.meter.specs.declared.measures.Load.{Load}
 use Rattle.meter.specs.declared.measures.Refusal.{Refusal}
 use Rattle.meter.specs.declared.measures.State.{State}
 use Rattle.meter.specs.Rules.{Charged}
-use Rattle.paths.specs.declared.layers.Load.{Load}
 use Rattle.paths.specs.Layers.{meter_at, after_charge, left_by, put_left, charged_node}
 
 pub nth_map : {S X : Type 0} (f : S → X) (xs : List S) (i : ℕ) (x : S) → i < length xs → x ≡ get_or xs i x → slice_get (map f xs) i ≡ Some (f x)
 nth_map f xs i x h is =
     let len : length (map f xs) ≡ length xs = length-map xs f in
     slice_get-get_or (map f xs) i (f x) (omega arith) ∙ ap Some (get_or-map f xs i x (f x) h ∙ ap f (sym is))
-
-pub nth_map_past : {S X : Type 0} (f : S → X) (xs : List S) (i : ℕ) → length xs ≤ i → slice_get (map f xs) i ≡ None
-nth_map_past f xs i h = let len : length (map f xs) ≡ length xs = length-map xs f in slice_get_past (map f xs) i (omega arith)
-
-pub at_flow : (m : State) (ms : List State) (k : ℕ) → k ≡ 0 → meter_at m ms k ≡ Some m
-at_flow m ms k e = cond-true (eqb k 0) _ _ (eq-eqb k 0 e)
 
 pub at_node : (m : State) (ms : List State) (k : ℕ) → (k ≡ 0 → ⊥) → meter_at m ms k ≡ slice_get ms (k - 1)
 at_node m ms k n = cond-false (eqb k 0) _ _ (ne_eqb k 0 n)
@@ -31,13 +25,10 @@ left_is f before later o c (Ok u) h = sym (ap (after_charge (f before)) h)
 left_is f before later o c (Err e) h = ap f h.1 ∙ sym (ap (after_charge (f before)) h.0)
 
 module _ {S : Type 0} (f : S → State) (xs : List S) (k : ℕ) (o : Load) (c : Colour) where
-  pub none_charged : k ≡ 0 → map f xs ≡ charged_node o c (map f xs) k
-  none_charged e = sym (cond-true (eqb k 0) _ _ (eq-eqb k 0 e))
-
-  pub past_charged : (k ≡ 0 → ⊥) → length xs ≤ k - 1 → map f xs ≡ charged_node o c (map f xs) k
-  past_charged n h = sym (cond-false (eqb k 0) _ _ (ne_eqb k 0 n) ∙ ap (put_left o c (map f xs) (k - 1)) (nth_map_past f xs (k - 1) h))
-
-  pub node_charged : (x later : S) (r : Result (Unit {0}) Refusal) → (k ≡ 0 → ⊥) → k - 1 < length xs → x ≡ get_or xs (k - 1) x → Charged f x later o.size.0 o.moment.0 c r → map f (set xs (k - 1) later) ≡ charged_node o c (map f xs) k
-  node_charged x later r n h is charge =
-      map-set f xs (k - 1) later ∙ ap (set (map f xs) (k - 1)) (left_is f x later o c r charge)
-      ∙ sym (cond-false (eqb k 0) _ _ (ne_eqb k 0 n) ∙ ap (put_left o c (map f xs) (k - 1)) (nth_map f xs (k - 1) x h is))
+  pub node_charged : (i : ℕ) (x later : S) (r : Result (Unit {0}) Refusal) → k ≡ i + 1 → i < length xs → x ≡ get_or xs i x → Charged f x later o.size.0 o.moment.0 c r → map f (set xs i later) ≡ charged_node o c (map f xs) k
+  node_charged i x later r is lt read charge =
+      let j : k - 1 ≡ i = omega arith in
+      map-set f xs i later ∙ ap (set (map f xs) i) (left_is f x later o c r charge)
+      ∙ ap (put_left o c (map f xs) i) (sym (nth_map f xs i x lt read))
+      ∙ ap (λ n. put_left o c (map f xs) n (slice_get (map f xs) n)) (sym j)
+      ∙ sym (cond-false (eqb k 0) _ _ (ne_eqb k 0 (λ z. omega arith)))

@@ -1,23 +1,24 @@
 -- A packet along a path, by the states of the meters.
 -- layers_of: a path as the list of its layers' numbers
 -- meter_at: the meter of a number, 0 for the flow's own
--- fits_one, fits_at: does a meter take the packet? over_in, over_one: would it be lifted over its depth?
--- all_of, first_of: does each of a list pass, and which is the first that does?
+-- fits_one, fits_at: does a meter take the packet? over_in, over_one, over_at: would it be lifted over its depth?
+-- taken_by, lifted_by: the same of the meters as they stand
 -- colours, best: the best colour that every meter of a path takes, no better than it arrived with
 -- lowest: the lowest layer that does not take it
 -- left_by: a meter after a charge; charged_node, charged_nodes: the nodes after a charge to one, and to each of a path
 -- Assumes nothing.
-use Rattle.std.specs.Prelude.{ℕ, ◌+◌, ◌-◌, Bool, true, false, cond, ◌&&◌, List, [], ◌∷◌, take, Some, None, Ok, Err, Option, Result, ◌==◌, slice_set}
-use Rattle.std.specs.List.{slice_get}
+use Rattle.std.specs.Prelude.{ℕ, ◌+◌, ◌-◌, Bool, false, cond, ◌&&◌, List, [], ◌∷◌, map, take, Some, None, Ok, Err, Option, Result, ◌==◌, slice_set}
+use Rattle.std.specs.List.{slice_get, list_all, find}
 use Rattle.meter.specs.declared.measures.Colour.{Colour}
 use Rattle.meter.specs.declared.measures.Colour.TheVariants.{Green, Yellow}
 use Rattle.meter.specs.declared.measures.Fit.{Fit}
+use Rattle.meter.specs.declared.measures.Load.{Load}
 use Rattle.meter.specs.declared.measures.PacketColour.{PacketColour}
 use Rattle.meter.specs.declared.measures.Refusal.{Refusal}
 use Rattle.meter.specs.declared.measures.State.{State}
 use Rattle.meter.specs.Rules.{asked, charged, fits_in}
 use Rattle.meter.specs.Alone.{allowed}
-use Rattle.paths.specs.declared.layers.Load.{Load}
+use Rattle.paths.specs.declared.layers.Meters.{Meters}
 use Rattle.paths.specs.declared.layers.Place.{Place}
 use Rattle.paths.specs.declared.path.Path.{Path}
 
@@ -43,20 +44,21 @@ abbrev pub over_one : Load → Option State → Bool
 over_one o None = false
 over_one o (Some m) = over_in (asked m o.size.0 o.moment.0 Yellow)
 
-abbrev pub all_of : {X : Type 0} → (X → Bool) → List X → Bool
-all_of p [] = true
-all_of p (x ∷ xs) = p x && all_of p xs
+abbrev pub over_at : Load → State → List State → ℕ → Bool
+over_at o m ms k = over_one o (meter_at m ms k)
 
-abbrev pub first_of : {X : Type 0} → (X → Bool) → List X → Option X
-first_of p [] = None
-first_of p (x ∷ xs) = cond (p x) (Some x) (first_of p xs)
+abbrev pub taken_by : {S : Type 0} → (S → State) → Meters S → Load → Colour → ℕ → Bool
+taken_by meaning ms o = fits_at o (meaning ms.flow.now) (map meaning ms.nodes.now)
+
+abbrev pub lifted_by : {S : Type 0} → (S → State) → Meters S → Load → ℕ → Bool
+lifted_by meaning ms o = over_at o (meaning ms.flow.now) (map meaning ms.nodes.now)
 
 -- the better first
 abbrev pub colours : List Colour
 colours = Green ∷ Yellow ∷ []
 
 abbrev pub best : (Colour → ℕ → Bool) → PacketColour → List ℕ → Option Colour
-best fits a ks = first_of (λ c. allowed a c && all_of (fits c) ks) colours
+best fits a ks = find (λ c. allowed a c && list_all (fits c) ks) colours
 
 abbrev pub place : ℕ → ℕ → Place
 place i k = record { layer = i; node = k }

@@ -9,8 +9,8 @@ use crate::path::{MOST_LAYERS, Path};
 fn parent_of(parents: &[u8], node: u8) -> u8
     ensures { result ≡ parent_of parents.now node }
 {
-    let at = (node as usize).saturating_sub(1);
-    if at < parents.len() { parents[at] } else { 0 }
+    let at = usize::from(node).saturating_sub(1);
+    parents.get(at).copied().unwrap_or(0)
 }
 
 impl Path {
@@ -20,14 +20,14 @@ impl Path {
     {
         let mut numbers = [0; MOST_LAYERS];
         let mut node = start;
-        for layer in 1..MOST_LAYERS {
+        for (nodes, number) in numbers[1..].iter_mut().enumerate() {
             if node == 0 {
                 return Path {
                     numbers,
-                    count: layer,
+                    count: 1 + nodes,
                 };
             }
-            numbers[layer] = node;
+            *number = node;
             node = parent_of(parents, node);
         }
         Path {
@@ -40,6 +40,6 @@ impl Path {
     pub fn layers(&self) -> &[u8]
         ensures { result.now ≡ layers_of self.now }
     {
-        &self.numbers[0..self.count]
+        &self.numbers[..self.count]
     }
 }

@@ -1,5 +1,5 @@
 -- Flows and nodes that hold a history go on to hold it with one more entry. Assumes nothing.
-use Rattle.std.proofs.Common.{◌≡◌, ℕ, zero, suc, ◌+◌, ◌-◌, ◌<◌, ◌≤◌, Bool, true, false, cond, not, ◌&&◌, eqb, List, [], ◌∷◌, ◌++◌, map, length, get_or, Some, None, Ok, vec_items, Option, sym, refl, ap, ◌∙◌, subst, ⊎_elim, arith}
+use Rattle.std.proofs.Common.{◌≡◌, ℕ, zero, suc, ◌+◌, ◌-◌, ◌<◌, ◌≤◌, Bool, true, false, cond, not, ◌&&◌, eqb, List, [], ◌∷◌, ◌++◌, map, length, get_or, Some, None, Ok, vec_items, Option, sym, refl, ap, ◌∙◌, subst, ⊎_elim, arith, Err}
 use Rattle.std.proofs.lemmas.List.{length-map}
 use Rattle.std.proofs.lemmas.Bool.{cases_Bool, cases_eq, ne_eqb}
 use Rattle.std.specs.List.{slice_get}
@@ -15,13 +15,11 @@ use Rattle.policy.specs.Rules.{matches, next, first_for}
 use Rattle.policy.specs.Policies.{parents_of}
 use Rattle.policy.specs.Trees.{most_depth, parent_of, upward, ancestry, depth_of, Earlier, Shallow}
 use Rattle.policy.proofs.Ancestry.{Falls, upward_none, upward_more, ancestry_more, depth_more, ancestry_falls, parent_below}
-use Rattle.paths.specs.Layers.{fits_one, fits_at, over_one, left_by, charged_nodes}
+use Rattle.paths.specs.Layers.{fits_one, fits_at, over_one, left_by, charged_nodes, over_at}
 use Rattle.paths.proofs.Numbered.{nth_map, at_node}
 use Rattle.history.specs.declared.answers.Refusal.{Refusal}
 use Rattle.history.specs.declared.answers.Refusal.TheVariants.{TableFull}
-use Rattle.history.specs.declared.answers.Answer.{Answer}
-use Rattle.history.specs.declared.answers.Answer.TheVariants.{Carried, Refused}
-use Rattle.history.specs.Answers.{judged, went_back}
+use Rattle.history.specs.Answers.{Answer, judged, went_back}
 use Rattle.history.specs.Histories as history
 use Rattle.history.specs.Histories.{RuleTerms, Config, Entry, History, entry_of, no_terms, no_rule, rule_for, alike, same_kind, is_key, key_in, key_of, room, among, clock_of, charges_of, on_flow, on_node, nodes_of, nodes_under, node_terms, flow_terms, carried_key, keys_like, meter_fits, meter_over, fits_for, over_for, answer_for, answer_of, Lawful}
 use Rattle.history.specs.Tracks.{Tracks, Fair}
@@ -30,18 +28,18 @@ use Rattle.history.proofs.Longer.{timely, clock_snoc, answer_on, lawful_by, lawf
 use Rattle.history.proofs.Pathing.{Agree, falls_agree, judged_same, judged_timely}
 use Rattle.history.proofs.Law.{carried_fits}
 use Rattle.history.proofs.Tracking.{tracks_on, tracks_off, tracks_none, asked_tracks, over_tracks, charged_tracks}
+use Rattle.flow.specs.Tables.{rows_of}
 use Rattle.policing.specs.declared.cores.Core.{Core}
 use Rattle.policing.specs.declared.cores.Flow.{Flow}
 use Rattle.policing.specs.declared.cores.Offer.{Offer}
-use Rattle.policing.specs.Passing.{over_by}
-use Rattle.policing.specs.Flows.{WholeBoth, HeldBy, RoomsKept}
+use Rattle.policing.specs.Flows.{HeldBy}
 use Rattle.policing.specs.Moving.{Same, Charges, Outcome, RuleAt, Moves, path_up}
 use Rattle.policing.specs.Holding.{flow_of, offer_of, rule_of, config_of, Rooted, Ready, Holds}
 use Rattle.policing.proofs.Charged.{left_in, nodes_terms, nodes_length, charged_at}
-use Rattle.policing.proofs.KindTables.{same_whole, same_back, same_forth, same_used, puts_held, puts_only, puts_kept, puts_nomore, puts_used}
+use Rattle.policing.proofs.KindTables.{same_back, same_forth, same_used, puts_held, puts_only, puts_kept, puts_nomore, puts_used}
 
 never : {A : Type 0} → true ≡ false → A
-never e = let x : ◌≡◌ {A = ℕ} 0 1 = cc in absurd (omega arith)
+never e = cc
 
 pub same_some : {A : Type 0} {x y : A} → Some x ≡ Some y → x ≡ y
 same_some e = cc
@@ -72,10 +70,10 @@ upward_deep ps earlier (suc f) n inside deep =
 -- the rule of a key is the first for it
 next_some : (o : Option ℕ) (i : ℕ) → next o ≡ Some i → (j : ℕ) × (o ≡ Some j) × (i ≡ suc j)
 next_some (Some j) i e = (j, refl, sym (same_some e))
-next_some None i e = let z : ◌≡◌ {A = ℕ} 0 1 = cc in absurd (omega arith)
+next_some None i e = cc
 
 pub rule_first : {M : Type 0} (f : M → State) (rs : List (Rule M)) (k : Key) (i : ℕ) (x : Rule M) → first_for (map (λ r. r.selector) rs) k ≡ Some i → RuleAt rs i x → rule_for (map (rule_of f) rs) k ≡ rule_of f x
-rule_first f [] k i x e at = let z : ◌≡◌ {A = ℕ} 0 1 = cc in absurd (omega arith)
+rule_first f [] k i x e at = cc
 rule_first {M} f (r ∷ rs) k i x e at = go (matches r.selector k) refl (λ j first there. rule_first f rs k j x first there) e
   where
     go : (b : Bool) → matches r.selector k ≡ b → ((j : ℕ) → first_for (map (λ (y : Rule M). y.selector) rs) k ≡ Some j → RuleAt rs j x → rule_for (map (rule_of f) rs) k ≡ rule_of f x) → cond b (Some 0) (next (first_for (map (λ (y : Rule M). y.selector) rs) k)) ≡ Some i →
@@ -93,13 +91,13 @@ abbrev pub moved : {M : Type 0} → Core M → Moment → Core M
 moved p t = record { flows = p.flows; tree = p.tree; nodes = p.nodes; rules = p.rules; clock = t }
 
 module _ {M : Type 0} (f : M → State) where
-  config_on : (p q : Core M) → parents_of q.tree ≡ parents_of p.tree → map terms_of (map f (vec_items q.nodes)) ≡ map terms_of (map f (vec_items p.nodes)) → vec_items q.rules ≡ vec_items p.rules → RoomsKept p.flows q.flows → config_of f q ≡ config_of f p
-  config_on p q a b c d =
-      (λ i. record { parents = a i; nodes = b i; rules = map (rule_of f) (c i); conversations = d.0 i; stations = d.1 i })
+  config_on : (p q : Core M) → parents_of q.tree ≡ parents_of p.tree → map terms_of (map f (vec_items q.nodes)) ≡ map terms_of (map f (vec_items p.nodes)) → vec_items q.rules ≡ vec_items p.rules
+      → length (rows_of q.flows.conversations) ≡ length (rows_of p.flows.conversations) → length (rows_of q.flows.stations) ≡ length (rows_of p.flows.stations) → config_of f q ≡ config_of f p
+  config_on p q a b c d e =
+      (λ i. record { parents = a i; nodes = b i; rules = map (rule_of f) (c i); conversations = d i; stations = e i })
 
-  ready_on : (p q : Core M) → Ready f p → WholeBoth q.flows → length (vec_items q.nodes) ≡ length (vec_items p.nodes) → parents_of q.tree ≡ parents_of p.tree → vec_items q.rules ≡ vec_items p.rules → Ready f q
-  ready_on p q r w n a b = record {
-    whole = w;
+  ready_on : (p q : Core M) → Ready f p → length (vec_items q.nodes) ≡ length (vec_items p.nodes) → parents_of q.tree ≡ parents_of p.tree → vec_items q.rules ≡ vec_items p.rules → Ready f q
+  ready_on p q r n a b = record {
     beside = n ∙ r.beside ∙ ap length (sym a);
     earlier = subst Earlier (sym a) r.earlier;
     shallow = subst Shallow (sym a) r.shallow;
@@ -108,15 +106,15 @@ module _ {M : Type 0} (f : M → State) where
 
   -- a refused record changes nothing but the clock
   pub holds_refused : (p q : Core M) (h : History) (o : history.Offer) (e : Refusal) (t : Moment) →
-      Holds f (config_of f p) p h → Same (moved p t) q → t.0 ≡ clock_of (h ++ (entry_of o (Refused e) ∷ [])) → Refused e ≡ answer_of (config_of f p) h o →
-      Holds f (config_of f p) q (h ++ (entry_of o (Refused e) ∷ []))
+      Holds f (config_of f p) p h → Same (moved p t) q → t.0 ≡ clock_of (h ++ (entry_of o (Err e) ∷ [])) → Err e ≡ answer_of (config_of f p) h o →
+      Holds f (config_of f p) q (h ++ (entry_of o (Err e) ∷ []))
   holds_refused p q h o e t hold s clock is =
       let g = config_of f p in
-      let on-time = timely g h o (Refused e) is in
+      let on-time = timely g h o (Err e) is in
       record {
-        is = config_on p q s.parents (ap (λ v. map terms_of (map f v)) s.nodes) s.rules (ap length s.flows.0.0, ap length s.flows.1.0);
-        ready = ready_on p q hold.ready (same_whole p.flows q.flows s.flows hold.ready.whole) (ap length s.nodes) s.parents s.rules;
-        lawful = lawful_snoc g h o (Refused e) hold.lawful is;
+        is = config_on p q s.parents (ap (λ v. map terms_of (map f v)) s.nodes) s.rules (ap length s.flows.0.0) (ap length s.flows.1.0);
+        ready = ready_on p q hold.ready (ap length s.nodes) s.parents s.rules;
+        lawful = lawful_snoc g h o (Err e) hold.lawful is;
         clock = ap (λ (v : Moment). v.0) s.clock ∙ clock;
         nodes = λ k m pos le at. tracks_none (node_terms g k) (on_node g k) h (f m) (hold.nodes k m pos (subst (λ v. k ≤ length v) s.nodes le) (subst (λ v. m ≡ get_or v (k - 1) m) s.nodes at)) o e on-time;
         flows = λ k m held.
@@ -175,19 +173,19 @@ module _ {M : Type 0} (f : M → State) where
         ap (fits_one o.load c) (at_node (f m) ms k (λ e. omega arith) ∙ s.1) ∙ asked_tracks (node_terms g k) (on_node g k) h s.0 s.2 r c fair late
         ∙ sym (ap (λ b. cond b (meter_fits (flow_terms g w.key) (on_flow w.key) h r c) (meter_fits (node_terms g k) (on_node g k) h r c)) (ne_eqb k 0 (λ e. omega arith)))
 
-    node_over : (k : ℕ) → 0 < k → k < x.parent + 1 → over_by o.load (f m) ms k ≡ over_for g h r w.key k
+    node_over : (k : ℕ) → 0 < k → k < x.parent + 1 → over_at o.load (f m) ms k ≡ over_for g h r w.key k
     node_over k pos lt =
         let s = node_state p h g hold k pos (inside k lt) in
         ap (over_one o.load) (at_node (f m) ms k (λ e. omega arith) ∙ s.1) ∙ over_tracks (node_terms g k) (on_node g k) h s.0 s.2 r fair late
         ∙ sym (ap (λ b. cond b (meter_over (flow_terms g w.key) (on_flow w.key) h r) (meter_over (node_terms g k) (on_node g k) h r)) (ne_eqb k 0 (λ e. omega arith)))
 
     -- judged by the states as by the history
-    judged_is : judged (fits_at o.load (f m) ms) (over_by o.load (f m) ms) w.arrival (path_up p x) ≡ judged (fits_for g h r w.key) (over_for g h r w.key) w.arrival (0 ∷ nodes_of g r)
+    judged_is : judged (fits_at o.load (f m) ms) (over_at o.load (f m) ms) w.arrival (path_up p x) ≡ judged (fits_for g h r w.key) (over_for g h r w.key) w.arrival (0 ∷ nodes_of g r)
     judged_is =
-        ap (judged (fits_at o.load (f m) ms) (over_by o.load (f m) ms) w.arrival) whole_path
-        ∙ judged_same (fits_at o.load (f m) ms) (fits_for g h r w.key) (over_by o.load (f m) ms) (over_for g h r w.key) w.arrival (0 ∷ nodes_of g r)
+        ap (judged (fits_at o.load (f m) ms) (over_at o.load (f m) ms) w.arrival) whole_path
+        ∙ judged_same (fits_at o.load (f m) ms) (fits_for g h r w.key) (over_at o.load (f m) ms) (over_for g h r w.key) w.arrival (0 ∷ nodes_of g r)
         (λ c. (asked_tracks (flow_terms g w.key) (on_flow w.key) h (f m) tracks r c fair late, subst (Agree (fits_at o.load (f m) ms c) (fits_for g h r w.key c)) (sym path_is) (falls_agree (fits_at o.load (f m) ms c) (fits_for g h r w.key c) (x.parent + 1) ks falls (node_fits c))))
-        (over_tracks (flow_terms g w.key) (on_flow w.key) h (f m) tracks r fair late, subst (Agree (over_by o.load (f m) ms) (over_for g h r w.key)) (sym path_is) (falls_agree (over_by o.load (f m) ms) (over_for g h r w.key) (x.parent + 1) ks falls node_over))
+        (over_tracks (flow_terms g w.key) (on_flow w.key) h (f m) tracks r fair late, subst (Agree (over_at o.load (f m) ms) (over_for g h r w.key)) (sym path_is) (falls_agree (over_at o.load (f m) ms) (over_for g h r w.key) (x.parent + 1) ks falls node_over))
 
     on_own : on_flow w.key r ≡ true
     on_own = ap (is_key w.key) own_key ∙ alike_self w.key
@@ -196,10 +194,10 @@ module _ {M : Type 0} (f : M → State) where
     key_at k = ap (is_key k) own_key
 
     -- a carried record
-    holds_carried : (c : Colour) (more : ℕ) → Carried c ≡ answer_of g h r → Charges f (moved p o.load.moment) q o.load w.key (path_up p x) (f m) more c → more ≡ cond (carried_key h w.key) 0 1 →
-        Holds f g q (h ++ (entry_of r (Carried c) ∷ []))
+    holds_carried : (c : Colour) (more : ℕ) → Ok c ≡ answer_of g h r → Charges f (moved p o.load.moment) q o.load w.key (path_up p x) (f m) more c → more ≡ cond (carried_key h w.key) 0 1 →
+        Holds f g q (h ++ (entry_of r (Ok c) ∷ []))
     holds_carried c more is ch grown =
-        let h' = h ++ (entry_of r (Carried c) ∷ []) in
+        let h' = h ++ (entry_of r (Ok c) ∷ []) in
         let by : (v : Terms) (u : Entry → Bool) → By (clock_of h) (charges_of u v h) = λ v u. lawful_by g u v h hold.lawful in
         let fit = carried_fits g h r c (sym is) in
         let same_key : fit.0.key ≡ w.key = same_some (sym (ap key_in fit.1) ∙ own_key) in
@@ -212,10 +210,10 @@ module _ {M : Type 0} (f : M → State) where
         let made : f new ≡ counted (f m) r.moment (cost (terms_of (f m)) r.size) c = ch.made.2 ∙ charged_tracks (flow_terms g w.key) (on_flow w.key) h (f m) tracks r c fair late own-fits in
         let own : Tracks (flow_terms g w.key) (on_flow w.key) h' (f new) = subst (Tracks (flow_terms g w.key) (on_flow w.key) h') (sym made) (tracks_on (flow_terms g w.key) (on_flow w.key) h (f m) tracks r c late by on_own) in
         record {
-          is = config_on p q ch.parents (ap (map terms_of) states ∙ nodes_terms o.load c ms ks) ch.rules ch.rooms;
-          ready = ready_on p q hold.ready ch.whole len ch.parents ch.rules;
-          lawful = lawful_snoc g h r (Carried c) hold.lawful is;
-          clock = ap (λ (v : Moment). v.0) ch.clock ∙ sym (clock_snoc 0 h (entry_of r (Carried c)));
+          is = config_on p q ch.parents (ap (map terms_of) states ∙ nodes_terms o.load c ms ks) ch.rules ch.same.0.1 ch.same.1.1;
+          ready = ready_on p q hold.ready len ch.parents ch.rules;
+          lawful = lawful_snoc g h r (Ok c) hold.lawful is;
+          clock = ap (λ (v : Moment). v.0) ch.clock ∙ sym (clock_snoc 0 h (entry_of r (Ok c)));
           nodes = λ k n pos le there.
               let old = node_state p h g hold k pos (omega (arith, len)) in
               let on : on_node g k r ≡ among k ks = ap (among k) path_is in
@@ -273,10 +271,10 @@ module _ {M : Type 0} (f : M → State) where
         answered : answer_of g h r ≡ judged (fits_for g h r w.key) (over_for g h r w.key) w.arrival (0 ∷ nodes_of g r)
         answered =
             answer_on g h r late ∙ ap (answer_for g h r) known_flow
-            ∙ ap (λ b. cond b (Refused TableFull) (judged (fits_for g h r w.key) (over_for g h r w.key) w.arrival (0 ∷ nodes_of g r))) free
+            ∙ ap (λ b. cond b (Err TableFull) (judged (fits_for g h r w.key) (over_for g h r w.key) w.arrival (0 ∷ nodes_of g r))) free
 
-        go : (a : Answer) → a ≡ answer_of g h r → a ≡ judged (fits_at o.load (f m) ms) (over_by o.load (f m) ms) w.arrival (path_up p x) → Outcome f (moved p o.load.moment) q o.load w.key (path_up p x) (f m) more a → Holds f g q (h ++ (entry_of r a ∷ []))
-        go (Carried c) e j d = holds_carried c more e d grown
-        go (Refused y) e j d =
-            let timely' : went_back (Refused y) ≡ false = ap went_back j ∙ judged_timely (fits_at o.load (f m) ms) (over_by o.load (f m) ms) w.arrival (path_up p x) in
-            holds_refused p q h r y o.load.moment hold d (sym (clock_snoc 0 h (entry_of r (Refused y)) ∙ ap (λ b. cond b (clock_of h) r.moment) timely')) e
+        go : (a : Answer) → a ≡ answer_of g h r → a ≡ judged (fits_at o.load (f m) ms) (over_at o.load (f m) ms) w.arrival (path_up p x) → Outcome f (moved p o.load.moment) q o.load w.key (path_up p x) (f m) more a → Holds f g q (h ++ (entry_of r a ∷ []))
+        go (Ok c) e j d = holds_carried c more e d grown
+        go (Err y) e j d =
+            let timely' : went_back (Err y) ≡ false = ap went_back j ∙ judged_timely (fits_at o.load (f m) ms) (over_at o.load (f m) ms) w.arrival (path_up p x) in
+            holds_refused p q h r y o.load.moment hold d (sym (clock_snoc 0 h (entry_of r (Err y)) ∙ ap (λ b. cond b (clock_of h) r.moment) timely')) e

@@ -1,7 +1,8 @@
 -- The nodes after a charge along a path: each node of the path once, and no other. Assumes nothing.
-use Rattle.std.proofs.Common.{◌≡◌, ℕ, zero, suc, ◌-◌, ◌<◌, Bool, true, false, cond, eqb, List, [], ◌∷◌, map, length, get_or, set, Some, None, Ok, Err, Option, Result, sym, refl, ap, ◌∙◌, ⊎_elim, arith, length-set}
+use Rattle.std.proofs.Common.{◌≡◌, ℕ, zero, suc, ◌-◌, ◌<◌, Bool, true, false, cond, eqb, List, [], ◌∷◌, map, length, set, Some, None, Ok, Err, Option, Result, sym, refl, ap, ◌∙◌, ⊎_elim, arith, length-set}
 use lib.Seq.{map-set_same}
 use Rattle.std.proofs.lemmas.Bool.{cases_eq, eq-eqb, ne_eqb}
+use Rattle.std.proofs.lemmas.Option.{get_or_from_slice_get}
 use Rattle.std.specs.List.{slice_get}
 use Rattle.meter.specs.declared.measures.Colour.{Colour}
 use Rattle.meter.specs.declared.measures.Refusal.{Refusal}
@@ -9,13 +10,13 @@ use Rattle.meter.specs.declared.measures.State.{State}
 use Rattle.meter.specs.Rules.{charged, terms_of}
 use Rattle.meter.proofs.Keeps.{charged_terms}
 use Rattle.policy.proofs.Ancestry.{Falls}
-use Rattle.paths.specs.declared.layers.Load.{Load}
+use Rattle.meter.specs.declared.measures.Load.{Load}
 use Rattle.paths.specs.Layers.{after_charge, left_by, put_left, charged_node, charged_nodes}
 use Rattle.history.specs.Histories.{among}
 use Rattle.history.proofs.Pathing.{among_above}
 
 nth_set_same : {X : Type 0} (xs : List X) (i : ℕ) (x y : X) → slice_get xs i ≡ Some x → slice_get (set xs i y) i ≡ Some y
-nth_set_same [] i x y e = let z : ◌≡◌ {A = ℕ} 0 1 = cc in absurd (omega arith)
+nth_set_same [] i x y e = cc
 nth_set_same (a ∷ xs) zero x y e = refl
 nth_set_same (a ∷ xs) (suc i) x y e = nth_set_same xs i x y e
 
@@ -25,16 +26,6 @@ nth_set_other (a ∷ xs) zero zero y n = absurd (n refl)
 nth_set_other (a ∷ xs) zero (suc j) y n = refl
 nth_set_other (a ∷ xs) (suc i) zero y n = refl
 nth_set_other (a ∷ xs) (suc i) (suc j) y n = nth_set_other xs i j y (λ e. n (ap suc e))
-
-nth_get : {X : Type 0} (xs : List X) (i : ℕ) (x : X) → slice_get xs i ≡ Some x → get_or xs i x ≡ x
-nth_get [] i x e = refl
-nth_get (a ∷ xs) zero x e = cc
-nth_get (a ∷ xs) (suc i) x e = nth_get xs i x e
-
-pub nth_some : {X : Type 0} (xs : List X) (i : ℕ) → i < length xs → (x : X) × (slice_get xs i ≡ Some x)
-nth_some [] i lt = absurd (omega arith)
-nth_some (a ∷ xs) zero lt = (a, refl)
-nth_some (a ∷ xs) (suc i) lt = nth_some xs i (omega arith)
 
 module _ (o : Load) (c : Colour) where
   -- a meter that is there is charged
@@ -51,7 +42,7 @@ module _ (o : Load) (c : Colour) where
 
   put_terms : (ms : List State) (i : ℕ) (s : Option State) → slice_get ms i ≡ s → map terms_of (put_left o c ms i s) ≡ map terms_of ms
   put_terms ms i None e = refl
-  put_terms ms i (Some m) e = map-set_same terms_of ms i (left_by o c m) m (left_terms m ∙ ap terms_of (sym (nth_get ms i m e)))
+  put_terms ms i (Some m) e = map-set_same terms_of ms i (left_by o c m) m (left_terms m ∙ ap terms_of (sym (get_or_from_slice_get ms i m m e)))
 
   node_terms_lem : (ms : List State) (k : ℕ) → map terms_of (charged_node o c ms k) ≡ map terms_of ms
   node_terms_lem ms k = go (eqb k 0)

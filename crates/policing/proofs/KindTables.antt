@@ -1,29 +1,26 @@
 -- The table of a key's kind: unchanged, or with one key's meter put. Assumes nothing.
-use Rattle.std.proofs.Common.{◌≡◌, ℕ, ◌+◌, cond, sym, ap, subst, arith}
+use Rattle.std.proofs.Common.{◌≡◌, ℕ, ◌+◌, cond, Some, None, Ok, Err, Option, Result, sym, ap, subst, arith}
 use Rattle.packet.specs.declared.kinds.Key.{Key}
 use Rattle.packet.specs.declared.kinds.Key.TheVariants.{Conversation, Station}
+use Rattle.std.specs.declared.cmp.PartialEq as comparing
+use Rattle.flow.specs.declared.key.Key as keys
 use Rattle.flow.specs.declared.table.FlowTable.{FlowTable}
 use Rattle.flow.specs.Rows as rows
-use Rattle.flow.specs.Tables.{rows_of, Whole, Held, Same}
+use Rattle.flow.specs.Tables.{rows_of, Held, Same}
 use Rattle.history.specs.Histories.{same_kind}
+use Rattle.history.specs.declared.answers.Refusal.{Refusal}
+use Rattle.policing.specs.declared.flows.FlowRow.{FlowRow}
 use Rattle.policing.specs.declared.flows.Flows.{Flows}
-use Rattle.policing.specs.Flows.{conversation_chain, station_chain, WholeBoth, HeldBy, used_by, SameBoth, PutsBy}
+use Rattle.policing.specs.Flows.{Looked, HeldBy, used_by, SameBoth, LookedBy, PutsBy}
 
-module _ {K M : Type 0} (t u : FlowTable K M) (s : Same t u) where
+module _ {K M : Type 0} {kind : keys.Ghosts K} {eq : comparing.Ghosts K} (t u : FlowTable K M kind eq) (s : Same t u) where
   back : (k : K) (m : M) → Held u k m → Held t k m
   back k m held = subst (λ v. rows.Holds v t.used k m) s.0 (subst (λ v. rows.Holds (rows_of u) v k m) s.2 held)
 
   forth : (k : K) (m : M) → Held t k m → Held u k m
   forth k m held = subst (λ v. rows.Holds (rows_of u) v k m) (sym s.2) (subst (λ v. rows.Holds v t.used k m) (sym s.0) held)
 
-  whole : (chain : K → ℕ) → Whole chain t → Whole chain u
-  whole chain w =
-      subst (λ v. rows.Sound chain v u.heads u.used) (sym s.0) (subst (λ v. rows.Sound chain (rows_of t) v u.used) (sym s.1) (subst (λ v. rows.Sound chain (rows_of t) t.heads v) (sym s.2) w))
-
 module _ {M : Type 0} (f g : Flows M) where
-  pub same_whole : SameBoth f g → WholeBoth f → WholeBoth g
-  same_whole s w = (whole f.conversations g.conversations s.0 conversation_chain w.0, whole f.stations g.stations s.1 station_chain w.1)
-
   pub same_back : SameBoth f g → (k : Key) (m : M) → HeldBy g k m → HeldBy f k m
   same_back s (Conversation k) m held = back f.conversations g.conversations s.0 k m held
   same_back s (Station k) m held = back f.stations g.stations s.1 k m held
@@ -61,3 +58,14 @@ module _ {M : Type 0} (f g : Flows M) where
   puts_used (Conversation a) more x p (Station b) = let e = p.2.2 in omega arith
   puts_used (Station a) more x p (Conversation b) = let e = p.2.2 in omega arith
   puts_used (Station a) more x p (Station b) = p.1
+
+module _ {M : Type 0} (f : Flows M) where
+  pub looked_conversation : (k : _) (r : Result (Option (FlowRow M)) Refusal) → Looked f.conversations k r → LookedBy f (Conversation k) r
+  looked_conversation k (Ok (Some h)) l = l
+  looked_conversation k (Ok None) l = l
+  looked_conversation k (Err e) l = l
+
+  pub looked_station : (k : _) (r : Result (Option (FlowRow M)) Refusal) → Looked f.stations k r → LookedBy f (Station k) r
+  looked_station k (Ok (Some h)) l = l
+  looked_station k (Ok None) l = l
+  looked_station k (Err e) l = l

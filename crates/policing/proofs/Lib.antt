@@ -1,4 +1,3 @@
-pub mod Judged
 pub mod Rows
 pub mod Moves
 pub mod Charged

@@ -1,5 +1,5 @@
 -- From what the calls did to what a packet changes. Assumes nothing.
-use Rattle.std.proofs.Common.{◌≡◌, ℕ, ◌<◌, List, ◌∷◌, map, length, get_or, Some, None, vec_items, Option, sym, refl, ap, ◌∙◌, subst}
+use Rattle.std.proofs.Common.{◌≡◌, ℕ, ◌<◌, List, ◌∷◌, map, length, get_or, Some, None, vec_items, Option, sym, ap, ◌∙◌, subst, Ok}
 use borrow.Rule.Slice.AtParam.{at_default}
 use Rattle.meter.specs.declared.measures.Colour.{Colour}
 use Rattle.meter.specs.declared.measures.PacketColour.{PacketColour}
@@ -8,40 +8,25 @@ use Rattle.packet.specs.declared.kinds.Key.{Key}
 use Rattle.policy.specs.declared.rules.Rule.{Rule}
 use Rattle.policy.specs.Policies.{parents_of}
 use Rattle.policy.specs.Trees.{most_depth, upward}
-use Rattle.paths.specs.declared.layers.Load.{Load}
+use Rattle.meter.specs.declared.measures.Load.{Load}
 use Rattle.paths.specs.Layers.{left_by, charged_nodes}
-use Rattle.history.specs.declared.answers.Answer.{Answer}
-use Rattle.history.specs.declared.answers.Answer.TheVariants.{Carried, Refused}
+use Rattle.history.specs.Answers.{Answer}
 use Rattle.policing.specs.declared.cores.Core.{Core}
-use Rattle.policing.specs.declared.judging.Passage.{Passage}
-use Rattle.policing.specs.Passing.{Taken}
-use Rattle.policing.specs.Flows.{WholeBoth, HeldBy, MissingBy, RowBy, RoomsKept, KeepsBy, PutsBy}
-use Rattle.policing.specs.Moving.{Same, Charges, Outcome, Came, RuleAt, Moves, path_up}
+use Rattle.policing.specs.Flows.{HeldBy, MissingBy, RowBy, SameSlices, KeepsBy, PutsBy}
+use Rattle.policing.specs.Moving.{Charges, Outcome, Came, RuleAt, Moves, path_up}
 
 pub rule_same : {M : Type 0} (rs : List (Rule M)) (i : ℕ) (x y : Rule M) → i < length rs → x ≡ get_or rs i x → RuleAt rs i y → x ≡ y
 rule_same rs i x y lt e a = at_default rs i x y e a.0 ∙ sym a.1
 
 module _ {M : Type 0} (f : M → State) (p q : Core M) (o : Load) (key : Key) (path : List ℕ) (m : State) (new : M) (c : Colour)
-    (nodes : map f (vec_items q.nodes) ≡ charged_nodes o c (map f (vec_items p.nodes)) path) (left : f new ≡ left_by o c m) (rooms : RoomsKept p.flows q.flows)
+    (nodes : map f (vec_items q.nodes) ≡ charged_nodes o c (map f (vec_items p.nodes)) path) (left : f new ≡ left_by o c m) (same : SameSlices p.flows q.flows)
     (parents : parents_of q.tree ≡ parents_of p.tree) (rules : vec_items q.rules ≡ vec_items p.rules) (clock : q.clock ≡ p.clock) where
-  charges : (more : ℕ) → WholeBoth q.flows × PutsBy p.flows q.flows key more new → Charges f p q o key path m more c
-  charges more k = record { nodes = nodes; made = (new, k.1, left); whole = k.0; rooms = rooms; parents = parents; rules = rules; clock = clock }
+  charges : (more : ℕ) → PutsBy p.flows q.flows key more new → Charges f p q o key path m more c
+  charges more k = record { nodes = nodes; made = (new, k, left); same = same; parents = parents; rules = rules; clock = clock }
 
-  pub came_carried : (row : Option ℕ) (r : Answer) → r ≡ Carried c → KeepsBy p.flows q.flows key row new → Came f p q o key path row m r
+  pub came_carried : (row : Option ℕ) (r : Answer) → r ≡ Ok c → KeepsBy p.flows q.flows key row new → Came f p q o key path row m r
   came_carried (Some i) r e keeps = λ at. subst (Outcome f p q o key path m 0) (sym e) (charges 0 (keeps at))
   came_carried None r e keeps = λ missing free. subst (Outcome f p q o key path m 1) (sym e) (charges 1 (keeps missing free))
-
-pub outcome_refused : {M : Type 0} (f : M → State) (p q : Core M) (o : Load) (key : Key) (path : List ℕ) (m : State) (more : ℕ) (r : Answer) → ((c : Colour) → r ≡ Carried c → ⊥) → Same p q → Outcome f p q o key path m more r
-outcome_refused f p q o key path m more (Carried c) n s = absurd (n c refl)
-outcome_refused f p q o key path m more (Refused e) n s = s
-
-pub came_refused : {M : Type 0} (f : M → State) (p q : Core M) (o : Load) (key : Key) (path : List ℕ) (row : Option ℕ) (m : State) (r : Answer) → ((c : Colour) → r ≡ Carried c → ⊥) → Same p q → Came f p q o key path row m r
-came_refused f p q o key path (Some i) m r n s = λ at. outcome_refused f p q o key path m 0 r n s
-came_refused f p q o key path None m r n s = λ missing free. outcome_refused f p q o key path m 1 r n s
-
-pub nodes_kept : {M : Type 0} (f : M → State) (w : Passage) (m m' : M) (ns ns' : List M) (r : Answer) → ((c : Colour) → r ≡ Carried c → ⊥) → Taken f w m m' ns ns' r → ns' ≡ ns
-nodes_kept f w m m' ns ns' (Carried c) un k = absurd (un c refl)
-nodes_kept f w m m' ns ns' (Refused e) un k = k.1
 
 -- along the path of the rule that stands there, by the meter that is held
 pub moves_to : {M : Type 0} (f : M → State) (p q : Core M) (o : Load) (key : Key) (a : PacketColour) (path other : List ℕ) (m n : M) (more : ℕ) (r : Answer) → path ≡ other → m ≡ n → Moves f p q o key a path (f m) more r → Moves f p q o key a other (f n) more r

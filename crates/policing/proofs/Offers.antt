@@ -11,40 +11,39 @@ use Rattle.policy.specs.declared.rules.Selector.{Selector}
 use Rattle.policy.specs.Rules.{matches, next, first_for}
 use Rattle.history.specs.declared.answers.Refusal.{Refusal}
 use Rattle.history.specs.declared.answers.Refusal.TheVariants.{Backward, TableFull}
-use Rattle.history.specs.declared.answers.Answer.{Answer}
-use Rattle.history.specs.declared.answers.Answer.TheVariants.{Refused}
-use Rattle.history.specs.Answers.{is_backward, judged}
+use Rattle.history.specs.Answers.{Answer, is_backward, judged}
 use Rattle.history.specs.Histories.{RuleTerms, Config, History, entry_of, room, clock_of, on_flow, nodes_of, flow_terms, carried_key, keys_like, fits_for, over_for, answer_for, answer_of}
 use Rattle.history.specs.Tracks.{Tracks, Fair}
 use Rattle.history.proofs.Longer.{clock_snoc, answer_back, answer_on}
 use Rattle.history.proofs.Tracking.{tracks_new}
+use Rattle.flow.proofs.Whole.{sound}
 use Rattle.policing.specs.declared.cores.Core.{Core}
 use Rattle.policing.specs.declared.cores.Flow.{Flow}
 use Rattle.policing.specs.declared.cores.Offer.{Offer}
-use Rattle.policing.specs.Flows.{WholeBoth, HeldBy, MissingBy, used_by, room_by}
+use Rattle.policing.specs.Flows.{HeldBy, MissingBy, used_by, room_by}
 use Rattle.policing.specs.Moving.{Same, RuleAt, Settles}
 use Rattle.policing.specs.Holding.{flow_of, offer_of, RuledBy, Ruled, rule_of, config_of, Holds}
 use Rattle.policing.proofs.Carrying.{item, moved, rule_first, holds_refused, settled}
 
 never' : {A : Type 0} → true ≡ false → A
-never' e = let x : ◌≡◌ {A = ℕ} 0 1 = cc in absurd (omega arith)
+never' e = cc
 
 room_is : {M : Type 0} (f : M → State) (p : Core M) (k : Key) → room (config_of f p) k ≡ room_by p.flows k
 room_is f p (Conversation k) = refl
 room_is f p (Station k) = refl
 
-used_within : {M : Type 0} (p : Core M) → WholeBoth p.flows → (k : Key) → used_by p.flows k ≤ room_by p.flows k
-used_within p w (Conversation k) = w.0.room
-used_within p w (Station k) = w.1.room
+used_within : {M : Type 0} (p : Core M) (k : Key) → used_by p.flows k ≤ room_by p.flows k
+used_within p (Conversation k) = (sound p.flows.conversations).room
+used_within p (Station k) = (sound p.flows.stations).room
 
 first_within : (ss : List Selector) (k : Key) (i : ℕ) → first_for ss k ≡ Some i → i < length ss
-first_within [] k i e = let z : ◌≡◌ {A = ℕ} 0 1 = cc in absurd (omega arith)
+first_within [] k i e = cc
 first_within (s ∷ ss) k i e = go (matches s k) (first_for ss k) (first_within ss k) e
   where
     go : (b : Bool) (o : Option ℕ) → ((j : ℕ) → o ≡ Some j → j < length ss) → cond b (Some 0) (next o) ≡ Some i → i < suc (length ss)
     go true o more e = let z : 0 ≡ i = cc in omega arith
     go false (Some j) more e = let z : suc j ≡ i = cc in omega (arith, more j refl)
-    go false None more e = let z : ◌≡◌ {A = ℕ} 0 1 = cc in absurd (omega arith)
+    go false None more e = cc
 
 not_held : {M : Type 0} (p : Core M) (k : Key) → ((m : M) → HeldBy p.flows k m → ⊥) → MissingBy p.flows k
 not_held {M} p (Conversation k) none = λ i lt keyed. none keyed.0.meter (i, keyed.0, lt, keyed.1, keyed.2, refl)
@@ -64,24 +63,24 @@ module _ {M : Type 0} (f : M → State) (p : Core M) (o : Offer) where
   unchanged : (t : _) → Same (moved p t) (moved p t)
   unchanged t = record { flows = ((refl, refl, refl), (refl, refl, refl)); nodes = refl; parents = refl; rules = refl; clock = refl }
 
-  pub went_back : o.load.moment.0 < p.clock.0 → Step p (Refused Backward)
+  pub went_back : o.load.moment.0 < p.clock.0 → Step p (Err Backward)
   went_back lt h hold fair ruled =
       let is = answer_back (config_of f p) h (offer_of o) (omega (arith, hold.clock)) in
-      (sym is, holds_refused f p p h (offer_of o) Backward p.clock hold (unchanged p.clock) (hold.clock ∙ sym (clock_snoc 0 h (entry_of (offer_of o) (Refused Backward)))) (sym is))
+      (sym is, holds_refused f p p h (offer_of o) Backward p.clock hold (unchanged p.clock) (hold.clock ∙ sym (clock_snoc 0 h (entry_of (offer_of o) (Err Backward)))) (sym is))
 
   -- refused before any meter is asked, and in time
-  refused_on : (h : History) (e : Refusal) → Holds f (config_of f p) p h → is_backward e ≡ false → Refused e ≡ answer_of (config_of f p) h (offer_of o) → (q : Core M) → Same (moved p o.load.moment) q → Holds f (config_of f p) q (h ++ (entry_of (offer_of o) (Refused e) ∷ []))
+  refused_on : (h : History) (e : Refusal) → Holds f (config_of f p) p h → is_backward e ≡ false → Err e ≡ answer_of (config_of f p) h (offer_of o) → (q : Core M) → Same (moved p o.load.moment) q → Holds f (config_of f p) q (h ++ (entry_of (offer_of o) (Err e) ∷ []))
   refused_on h e hold timely is q same =
-      holds_refused f p q h (offer_of o) e o.load.moment hold same (sym (clock_snoc 0 h (entry_of (offer_of o) (Refused e)) ∙ ap (λ b. cond b (clock_of h) o.load.moment.0) timely)) is
+      holds_refused f p q h (offer_of o) e o.load.moment hold same (sym (clock_snoc 0 h (entry_of (offer_of o) (Err e)) ∙ ap (λ b. cond b (clock_of h) o.load.moment.0) timely)) is
 
-  pub was_flowless : (e : Refusal) → o.flow ≡ Err e → p.clock.0 ≤ o.load.moment.0 → Step (moved p o.load.moment) (Refused e)
+  pub was_flowless : (e : Refusal) → o.flow ≡ Err e → p.clock.0 ≤ o.load.moment.0 → Step (moved p o.load.moment) (Err e)
   was_flowless e flow late h hold fair ruled =
       let late' : clock_of h ≤ o.load.moment.0 = omega (arith, hold.clock) in
-      let is : answer_of (config_of f p) h (offer_of o) ≡ Refused e = answer_on (config_of f p) h (offer_of o) late' ∙ ap (λ v. answer_for (config_of f p) h (offer_of o) (flow_of v)) flow in
+      let is : answer_of (config_of f p) h (offer_of o) ≡ Err e = answer_on (config_of f p) h (offer_of o) late' ∙ ap (λ v. answer_for (config_of f p) h (offer_of o) (flow_of v)) flow in
       (sym is, refused_on h e hold (subst (RuledBy (vec_items p.rules)) flow ruled) (sym is) (moved p o.load.moment) (unchanged o.load.moment))
 
   pub was_settled : (q : Core M) (r : Answer) (w : Flow) → o.flow ≡ Ok w → p.clock.0 ≤ o.load.moment.0 →
-      (WholeBoth p.flows → (x : Rule M) → RuleAt (vec_items p.rules) w.rule x → Settles f (moved p o.load.moment) q o.load w x r) → Step q r
+      ((x : Rule M) → RuleAt (vec_items p.rules) w.rule x → Settles f (moved p o.load.moment) q o.load w x r) → Step q r
   was_settled q r w flow late settles h hold fair ruled =
       let g = config_of f p in
       let k = w.key in
@@ -92,7 +91,7 @@ module _ {M : Type 0} (f : M → State) (p : Core M) (o : Offer) where
       let xx = item (vec_items p.rules) w.rule lt in
       let x = xx.0 in
       let at : RuleAt (vec_items p.rules) w.rule x = (lt, xx.1) in
-      let s = settles hold.ready.whole x at in
+      let s = settles x at in
       ⊎_elim
       (λ (b : carried_key h k ≡ true).
       let held = hold.rows k b in
@@ -108,12 +107,12 @@ module _ {M : Type 0} (f : M → State) (p : Core M) (o : Offer) where
       (ap (λ v. not v && eqb (keys_like k h) (room g k)) b ∙ ne_eqb (keys_like k h) (room g k) (λ e. omega (arith, hold.used k, room_is f p k))) (sym (ap {B = ℕ} (λ v. cond v 0 1) b)) (s.unknown missing free))
       (λ (full : room_by p.flows k ≤ used_by p.flows k).
       let done = s.full missing full in
-      let whole = used_within p hold.ready.whole k in
+      let whole = used_within p k in
       let all : keys_like k h ≡ room g k = omega (arith, hold.used k, room_is f p k) in
       let rest = judged (fits_for g h (offer_of o) k) (over_for g h (offer_of o) k) w.arrival (0 ∷ nodes_of g (offer_of o)) in
-      let is : answer_of g h (offer_of o) ≡ Refused TableFull =
+      let is : answer_of g h (offer_of o) ≡ Err TableFull =
       answer_on g h (offer_of o) late' ∙ ap (λ v. answer_for g h (offer_of o) (flow_of v)) flow
-      ∙ ap (λ v. cond (not v && eqb (keys_like k h) (room g k)) (Refused TableFull) rest) b ∙ ap (λ v. cond v (Refused TableFull) rest) (eq-eqb (keys_like k h) (room g k) all) in (
+      ∙ ap (λ v. cond (not v && eqb (keys_like k h) (room g k)) (Err TableFull) rest) b ∙ ap (λ v. cond v (Err TableFull) rest) (eq-eqb (keys_like k h) (room g k) all) in (
         done.0 ∙ sym is,
         subst (λ v. Holds f g q (h ++ (entry_of (offer_of o) v ∷ []))) (sym done.0) (refused_on h TableFull hold refl (sym is) q done.1),
       ))

@@ -1,7 +1,7 @@
 -- What flows, nodes and clock hold after a history.
 -- offer_of: a record as the history has it; Ruled: its rule is the first for its key, and the clock is not why it has no flow
 -- rule_of, config_of: what a policer was made with
--- Ready: what the tables need to stay sound; Unused: nothing was charged
+-- Ready: nodes and rules as a policy makes them; Unused: nothing was charged
 -- Holds: the configuration, the answers, the clock, and the fills that the meters themselves have
 -- Assumes nothing.
 use Rattle.std.specs.Prelude.{◌≡◌, ℕ, ◌-◌, ◌<◌, ◌≤◌, true, false, List, map, length, Some, Ok, Err, vec_items, Result, slice_index_or}
@@ -21,7 +21,7 @@ use Rattle.history.specs.Tracks.{Tracks}
 use Rattle.policing.specs.declared.cores.Core.{Core}
 use Rattle.policing.specs.declared.cores.Flow.{Flow}
 use Rattle.policing.specs.declared.cores.Offer.{Offer}
-use Rattle.policing.specs.Flows.{WholeBoth, HeldBy, used_by}
+use Rattle.policing.specs.Flows.{HeldBy, used_by}
 use Rattle.policing.specs.Moving.{RuleAt}
 
 abbrev pub flow_of : Result Flow Refusal → Result history.Flow Refusal
@@ -59,7 +59,6 @@ abbrev pub Rooted : {M : Type 0} → (M → State) → List ℕ → List (Rule M
 Rooted {M} f ps rs = (i : ℕ) (x : Rule M) → RuleAt rs i x → (x.parent ≤ length ps) × Unused (f x.meter)
 
 pub record Ready {M : Type 0} (f : M → State) (p : Core M) : Type 0 where
-  pub whole : WholeBoth p.flows
   pub beside : length (vec_items p.nodes) ≡ length (parents_of p.tree)
   pub earlier : Earlier (parents_of p.tree)
   pub shallow : Shallow (parents_of p.tree)

@@ -1,9 +1,8 @@
 // What a policer holds besides its totals.
 use crate::flows::Flows;
 use history::answers::Refusal;
-use meter::measures::{Moment, PacketColour};
+use meter::measures::{Load, Moment, PacketColour};
 use packet::kinds::Key;
-use paths::layers::Load;
 use policy::rules::Rule;
 use policy::tree::Tree;
 
@@ -12,13 +11,14 @@ use policy::tree::Tree;
 pub struct Core<'a, M> {
     pub flows: Flows<'a, M>,
     pub tree: Tree,
+    // the meters beside the tree, as in a policy: the tree is of parents alone
     pub nodes: Vec<M>,
     pub rules: Vec<Rule<M>>,
     pub clock: Moment,
 }
 
 // A packet's flow, the place of its rule, and the colour with which it arrives.
-#[derive(Clone, Copy)]
+#[derive(Clone, Copy, PartialEq, Eq, Debug)]
 pub struct Flow {
     pub key: Key,
     pub rule: usize,
@@ -26,7 +26,7 @@ pub struct Flow {
 }
 
 // A record as it is judged: its size and moment, and its flow, or why it has none.
-#[derive(Clone, Copy)]
+#[derive(Clone, Copy, PartialEq, Eq, Debug)]
 pub struct Offer {
     pub load: Load,
     pub flow: Result<Flow, Refusal>,

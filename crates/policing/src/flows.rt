@@ -9,13 +9,9 @@ pub struct Flows<'a, M> {
     pub stations: FlowTable<'a, Station, M>,
 }
 
-// What a table has for a key.
-#[derive(Clone, Copy)]
-pub enum Lookup<M> {
-    // a row, and the meter in it
-    Held(usize, M),
-    // no row, and one is free
-    Free,
-    // no row, and none is free
-    Full,
+// The row that a flow has, and the meter in it.
+#[derive(Clone, Copy, PartialEq, Eq, Debug)]
+pub struct FlowRow<M> {
+    pub row: usize,
+    pub meter: M,
 }

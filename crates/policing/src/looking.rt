@@ -1,40 +1,37 @@
 // A flow's meter looked up, and kept, in one table of any kind of key, and in the table of a key's kind.
-ghost use Rattle.std.specs.Prelude.{◌≡◌, length};
-ghost use Rattle.flow.specs.Keys.{chain_of};
-ghost use Rattle.flow.specs.Tables.{rows_of, Whole};
-ghost use Rattle.policing.specs.Flows.{Looked, Keeps, WholeBoth, LookedBy, KeepsBy, RoomsKept};
+ghost use Rattle.flow.specs.Tables.{SameSlice};
+ghost use Rattle.policing.specs.Flows.{Looked, Keeps, LookedBy, KeepsBy, SameSlices};
 
-use crate::flows::{Flows, Lookup};
+use crate::flows::{FlowRow, Flows};
 use flow::key::Key;
 use flow::table::FlowTable;
+use history::answers::Refusal;
 use packet::kinds;
 
-fn look_in<K: Key + Copy, M: Copy>(table: &FlowTable<'_, K, M>, key: &K) -> Lookup<M>
-    ensures { Whole (λ k. chain_of (K.bytes k)) table.now → Looked table.now key.now result }
+// The row that the key has, and the meter in it; none where one is free for it.
+fn look_in<K: Key + Copy, M: Copy>(
+    table: &FlowTable<'_, K, M>,
+    key: &K,
+) -> Result<Option<FlowRow<M>>, Refusal>
+    ensures { Looked table.now key.now result }
 {
     match table.find(key) {
-        Some(row) => match table.meter(row) {
-            Some(meter) => Lookup::Held(row, meter),
-            None => Lookup::Full,
-        },
-        None => if table.is_full() {
-            Lookup::Full
-        } else {
-            Lookup::Free
-        },
+        Some(row) => Ok(table.meter(row).map(|meter| FlowRow { row, meter })),
+        None if table.is_full() => Err(Refusal::TableFull),
+        None => Ok(None),
     }
 }
 
-// In the row that the key has, or in a new one.
+// In the row that the key has, or in a new one. Neither call can refuse where the look-up said so, and otherwise
+// nothing is promised: so their answers are dropped.
 fn keep_in<K: Key + Copy, M: Copy>(
     table: &mut FlowTable<'_, K, M>,
     key: K,
     row: Option<usize>,
     meter: M,
 )
-    ensures same { table.new.rows.ghost_name ≡ table.old.rows.ghost_name }
-    ensures rows { length (rows_of table.new) ≡ length (rows_of table.old) }
-    ensures keeps { Whole (λ k. chain_of (K.bytes k)) table.old → Keeps (λ k. chain_of (K.bytes k)) table.old table.new key row meter }
+    ensures same { SameSlice table.old table.new }
+    ensures keeps { Keeps table.old table.new key row meter }
 {
     match row {
         Some(row) => {
@@ -46,9 +43,12 @@ fn keep_in<K: Key + Copy, M: Copy>(
     }
 }
 
+// Two calls, with the judgement between them: one that lends a table would stand around all of it. Each picks the table
+// of the key's kind, whose type is another.
 impl<'a, M: Copy> Flows<'a, M> {
-    pub fn look(&self, key: kinds::Key) -> Lookup<M>
-        ensures { WholeBoth self.now → LookedBy self.now key result }
+    // What the table of the key's kind has for it.
+    pub fn look(&self, key: kinds::Key) -> Result<Option<FlowRow<M>>, Refusal>
+        ensures { LookedBy self.now key result }
     {
         match key {
             kinds::Key::Conversation(key) => look_in(&self.conversations, &key),
@@ -56,10 +56,10 @@ impl<'a, M: Copy> Flows<'a, M> {
         }
     }
 
+    // Keeps a flow's meter in the table of the key's kind.
     pub fn keep(&mut self, key: kinds::Key, row: Option<usize>, meter: M)
-        ensures same { (self.new.conversations.rows.ghost_name ≡ self.old.conversations.rows.ghost_name) × (self.new.stations.rows.ghost_name ≡ self.old.stations.rows.ghost_name) }
-        ensures rooms { RoomsKept self.old self.new }
-        ensures keeps { WholeBoth self.old → KeepsBy self.old self.new key row meter }
+        ensures same { SameSlices self.old self.new }
+        ensures keeps { KeepsBy self.old self.new key row meter }
     {
         match key {
             kinds::Key::Conversation(key) => keep_in(&mut self.conversations, key, row, meter),

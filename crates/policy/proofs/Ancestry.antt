@@ -1,5 +1,5 @@
 -- The way up from a node: more steps than its number change nothing, the numbers on it fall, and a node more leaves it.
-use Rattle.std.proofs.Common.{◌≡◌, ℕ, zero, suc, ◌+◌, ◌-◌, ◌<◌, ◌≤◌, cond, List, [], ◌∷◌, ◌++◌, length, get_or, sym, refl, ap, ◌∙◌, subst, ⊎_elim, arith}
+use Rattle.std.proofs.Common.{◌≡◌, ℕ, zero, suc, ◌+◌, ◌-◌, ◌<◌, ◌≤◌, cond, List, [], ◌∷◌, ◌++◌, length, sym, refl, ap, ◌∙◌, subst, ⊎_elim, arith}
 use Rattle.std.proofs.lemmas.List.{get_or_append_left}
 use Rattle.std.proofs.lemmas.Bool.{cases_eq, eq-eqb, ne_eqb}
 use Rattle.policy.specs.Trees.{parent_of, upward, ancestry, depth_of, Earlier, DepthLaw}
@@ -41,20 +41,6 @@ depth_more ps earlier n pos inside = let e = ap length (ancestry_more ps earlier
 pub depth_law : (ps : List ℕ) → Earlier ps → DepthLaw ps
 depth_law ps earlier = (refl, λ n pos inside. depth_more ps earlier n pos inside)
 
-length_upward_le : (f : ℕ) (ps : List ℕ) (n : ℕ) → length (upward f ps n) ≤ f
-length_upward_le zero ps n = omega arith
-length_upward_le (suc f) ps n =
-    ⊎_elim
-    (λ (e : n ≡ 0). let none = ap length (upward_none (suc f) ps n e) in omega arith)
-    (λ (ne : n ≡ 0 → ⊥).
-    let more = ap length (upward_more f ps n (omega arith)) in
-    let le = length_upward_le f ps (parent_of ps n) in
-    omega arith)
-    (cases_eq n 0)
-
-pub depth_le : (ps : List ℕ) (n : ℕ) → depth_of ps n ≤ n
-depth_le ps n = length_upward_le n ps n
-
 -- numbers above 0, the first below b, and each below the one before
 abbrev pub Falls : ℕ → List ℕ → Type 0
 Falls b [] = Unit {0}
@@ -78,16 +64,6 @@ upward_falls ps earlier (suc f) n inside =
 
 pub ancestry_falls : (ps : List ℕ) → Earlier ps → (n : ℕ) → n ≤ length ps → Falls (n + 1) (ancestry ps n)
 ancestry_falls ps earlier n inside = upward_falls ps earlier n n inside
-
-pub falls_between : (b : ℕ) (ks : List ℕ) → Falls b ks → (i : ℕ) → i < length ks → (0 < get_or ks i 0) × (get_or ks i 0 < b)
-falls_between b [] falls i h = absurd (omega arith)
-falls_between b (k ∷ ks) falls zero h = (falls.0, falls.1)
-falls_between b (k ∷ ks) falls (suc i) h = let later = falls_between k ks falls.2 i (omega arith) in (later.0, omega (arith, later.1, falls.1))
-
-pub ancestry_between : (ps : List ℕ) → Earlier ps → (n : ℕ) → n ≤ length ps → (i : ℕ) → i < depth_of ps n → (0 < get_or (ancestry ps n) i 0) × (get_or (ancestry ps n) i 0 ≤ n)
-ancestry_between ps earlier n inside i h =
-    let each = falls_between (n + 1) (ancestry ps n) (ancestry_falls ps earlier n inside) i h in
-    (each.0, omega (arith, each.1))
 
 parent_push : (ps : List ℕ) (p n : ℕ) → 0 < n → n ≤ length ps → parent_of (ps ++ p ∷ []) n ≡ parent_of ps n
 parent_push ps p n pos inside = get_or_append_left ps (p ∷ []) 0 (n - 1) (omega arith)

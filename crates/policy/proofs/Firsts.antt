@@ -1,48 +1,26 @@
--- The first rule for a key: what is left of the rules decides it, and no rule before it is for the key.
-use Rattle.std.proofs.Common.{◌≡◌, ℕ, zero, suc, ◌+◌, ◌<◌, ◌≤◌, Bool, true, false, cond, List, [], ◌∷◌, map, length, get_or, drop, Some, None, Option, sym, refl, ap, ◌∙◌, subst, arith}
-use Rattle.std.proofs.lemmas.List.{at_drop_more, at_drop_all}
-use Rattle.std.proofs.lemmas.Bool.{cond_both}
+-- The first rule for a key: it is where the library finds it, and no rule before it is for the key.
+use Rattle.std.proofs.Common.{◌≡◌, ℕ, zero, suc, ◌+◌, ◌<◌, ◌≤◌, Bool, true, false, not, cond, ltb, List, [], ◌∷◌, map, length, Some, None, Option, sym, refl, ap, ◌∙◌, subst, ⊎_elim, arith}
+use Rattle.std.specs.List.{position, position_or_len}
+use Rattle.std.proofs.lemmas.Bool.{cond_both, cases_lt, lt-ltb, le-ltb}
+use Rattle.std.proofs.lemmas.Bool.Decides.{nat_tests}
 use Rattle.packet.specs.declared.kinds.Key.{Key}
 use Rattle.policy.specs.declared.rules.Selector.{Selector}
 use Rattle.policy.specs.declared.rules.Rule.{Rule}
 use Rattle.policy.specs.Rules.{matches, next, first_for, SelectorAt, First}
 
--- a place that was counted from i
-abbrev pub placed : ℕ → Option ℕ → Option ℕ
-placed i (Some j) = Some (i + j)
-placed i None = None
+-- the first of one rule before others, found among them at n or not at all
+step : (b : Bool) (n len : ℕ) (left : Option ℕ) → left ≡ cond (ltb n len) (Some n) None
+    → cond b (Some 0) (next left) ≡ cond (ltb (cond (not b) (1 + n) 0) (suc len)) (Some (cond (not b) (1 + n) 0)) None
+step true n len left is = grind (arith, nat_tests)
+step false n len left is = ⊎_elim
+    (λ (h : n < len). let l : left ≡ Some n = is ∙ grind (arith, nat_tests) in let e : suc n ≡ 1 + n = omega arith in rw (l, lt-ltb (1 + n) (suc len) (omega arith)) (ap Some e))
+    (λ (h : len ≤ n). let l : left ≡ None = is ∙ grind (arith, nat_tests) in rw (l, le-ltb (1 + n) (suc len) (omega arith)))
+    (cases_lt n len)
 
-placed_next : (i : ℕ) (o : Option ℕ) → placed i (next o) ≡ placed (i + 1) o
-placed_next i (Some j) = let e : i + suc j ≡ (i + 1) + j = omega arith in ap Some e
-placed_next i None = refl
-
-placed_zero : (o : Option ℕ) → placed 0 o ≡ o
-placed_zero (Some j) = let e : 0 + j ≡ j = omega arith in ap Some e
-placed_zero None = refl
-
-abbrev pub first_in : {M : Type 0} → List (Rule M) → Key → Option ℕ
-first_in rs k = first_for (map (λ r. r.selector) rs) k
-
-module _ {M : Type 0} (rs : List (Rule M)) (k : Key) where
-  pub left_none : first_in rs k ≡ placed 0 (first_in (drop 0 rs) k)
-  left_none = sym (placed_zero (first_in rs k))
-
-  module _ (i : ℕ) (r : Rule M) (inside : i < length rs) (is : r ≡ get_or rs i r) (left : first_in rs k ≡ placed i (first_in (drop i rs) k)) (found : Bool) (told : found ≡ matches r.selector k) where
-    left_at : (b : Bool) → found ≡ b → first_in rs k ≡ placed i (cond b (Some 0) (next (first_in (drop (i + 1) rs) k)))
-    left_at b e =
-        left
-        ∙ ap (placed i) (at_drop_more (λ l. first_in l k) rs i r inside)
-        ∙ ap (λ x. placed i (cond (matches x.selector k) (Some 0) (next (first_in (drop (i + 1) rs) k)))) (sym is)
-        ∙ ap (λ v. placed i (cond v (Some 0) (next (first_in (drop (i + 1) rs) k)))) (sym told ∙ e)
-
-    pub left_found : found ≡ true → Some i ≡ first_in rs k
-    left_found e = let z : i + 0 ≡ i = omega arith in sym (left_at true e ∙ ap Some z)
-
-    pub left_more : found ≡ false → first_in rs k ≡ placed (i + 1) (first_in (drop (i + 1) rs) k)
-    left_more e = left_at false e ∙ placed_next i (first_in (drop (i + 1) rs) k)
-
-  pub left_all_lem : (i : ℕ) → length rs ≤ i → first_in rs k ≡ placed i (first_in (drop i rs) k) → None ≡ first_in rs k
-  left_all_lem i past left = sym (left ∙ ap (placed i) (at_drop_all (λ l. first_in l k) rs i past))
+pub first_position : {M : Type 0} (rs : List (Rule M)) (k : Key) → first_for (map (λ r. r.selector) rs) k ≡ position (λ r. matches r.selector k) rs
+first_position [] k = refl
+first_position {M} (r ∷ rs) k =
+    step (matches r.selector k) (position_or_len (λ (x : Rule M). matches x.selector k) rs) (length rs) (first_for (map (λ (x : Rule M). x.selector) rs) k) (first_position rs k)
 
 first_next : (s : Selector) (ss : List Selector) (k : Key) → matches s k ≡ false → (o : Option ℕ) → First ss k o → First (s ∷ ss) k (next o)
 first_next s ss k other (Some i) f = (

@@ -1,24 +1,21 @@
 -- What a check that was passed says of the tree, and of what it answered.
-use Rattle.std.proofs.Common.{◌≡◌, ℕ, ◌+◌, ◌<◌, ◌≤◌, Bool, true, false, cond, ltb, leb, List, length, IfOk, Ok, Err, Result, sym, refl, subst, arith}
+use Rattle.std.proofs.Common.{◌≡◌, ℕ, ◌+◌, ◌<◌, ◌≤◌, Bool, true, false, cond, ltb, leb, List, length, IfOk, Ok, Err, Result, sym, refl, subst}
 use Rattle.std.proofs.lemmas.Bool.{leb-true, ltb-true}
 use Rattle.policy.specs.declared.rules.Refusal.{Refusal}
-use Rattle.policy.specs.declared.rules.Refusal.TheVariants.{UnknownParent, TooDeep, TooManyNodes, TooManyRules}
-use Rattle.policy.specs.Trees.{most_nodes, most_depth, most_rules, depth_of}
-use Rattle.policy.specs.Policies.{before, room_of, number_of, known_of, under_of, rule_room_of, node_of, Placed}
+use Rattle.policy.specs.declared.rules.Refusal.TheVariants.{UnknownParent, TooDeep, TooManyNodes}
+use Rattle.policy.specs.Trees.{most_nodes, most_depth, depth_of}
+use Rattle.policy.specs.Policies.{before, room_of, number_of, known_of, under_of, node_of, Placed}
 
 test_passed : (b : Bool) (x q : ℕ) (e : Refusal) → Ok q ≡ cond b (Ok x) (Err e) → (b ≡ true) × (q ≡ x)
 test_passed true x q e ok = (refl, (cc))
-test_passed false x q e ok = let z : ◌≡◌ {A = ℕ} 0 1 = cc in absurd (omega arith)
+test_passed false x q e ok = cc
 
 both_passed : (a r : Result ℕ Refusal) (q : ℕ) → Ok q ≡ before a r → (n : ℕ) × (Ok n ≡ a) × (Ok q ≡ r)
 both_passed (Ok n) r q ok = (n, refl, ok)
-both_passed (Err e) r q ok = let z : ◌≡◌ {A = ℕ} 0 1 = cc in absurd (omega arith)
+both_passed (Err e) r q ok = cc
 
 pub room_taken : (ps : List ℕ) (q : ℕ) → Ok q ≡ room_of ps → length ps < most_nodes
 room_taken ps q ok = ltb-true (length ps) most_nodes (test_passed (ltb (length ps) most_nodes) (length ps + 1) q TooManyNodes ok).0
-
-pub rule_room_taken : (n q : ℕ) → Ok q ≡ rule_room_of n → n < most_rules
-rule_room_taken n q ok = ltb-true n most_rules (test_passed (ltb n most_rules) (n + 1) q TooManyRules ok).0
 
 pub known_taken : (ps : List ℕ) (p q : ℕ) → Ok q ≡ known_of ps p → (p ≤ length ps) × (q ≡ p)
 known_taken ps p q ok = let t = test_passed (leb p (length ps)) p q UnknownParent ok in (leb-true p (length ps) t.0, t.1)

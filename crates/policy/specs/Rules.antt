@@ -2,12 +2,13 @@
 -- refusal_number: the number of each refusal
 -- address_bits: how many bits an address has; leading: the first of them, as a number
 -- prefix: an address with a length; prefix_of: the same, where the address has no bit beyond the length
--- in_prefix, protocol_is: does an address lie in a prefix, is a protocol the one that is asked for?
--- ip_matches, station_is, matches: is a rule for a key?
+-- in_prefix: does an address lie in a prefix?
+-- ip_matches, matches: is a rule for a key?
 -- first_for: the first rule for a key, from 0; next: one place further on
 -- SelectorAt: what stands at a place; First: the first rule for a key, said of every rule
 -- Assumes nothing.
 use Rattle.std.specs.Prelude.{◌≡◌, ℕ, suc, ◌-◌, ◌/◌, ◌%◌, ◌^◌, ◌<◌, Bool, true, false, cond, ◌&&◌, List, [], ◌∷◌, length, Some, None, Option, ◌==◌, nat_le, slice_index_or}
+use Rattle.std.specs.Option.{option_map_or}
 use Rattle.std.specs.Str.{bytes_eq}
 use Rattle.packet.specs.declared.kinds.Address.{Address}
 use Rattle.packet.specs.declared.kinds.Conversation.{Conversation}
@@ -45,22 +46,16 @@ prefix_of a bits = cond (nat_le bits address_bits && a.0 % 2 ^ (address_bits - b
 abbrev pub in_prefix : Prefix → Address → Bool
 in_prefix p a = leading p.length a.0 == leading p.length p.address.0
 
-abbrev pub protocol_is : Option ℕ → ℕ → Bool
-protocol_is None n = true
-protocol_is (Some m) n = n == m
-
+-- where no protocol is asked for, any will do
 abbrev pub ip_matches : IpRule → Conversation → Bool
-ip_matches r k = in_prefix r.source k.source && (in_prefix r.destination k.destination && protocol_is r.protocol k.protocol)
-
-abbrev pub station_is : Option Station → Station → Bool
-station_is None k = true
-station_is (Some s) k = bytes_eq s.source k.source
+ip_matches r k =
+    in_prefix r.source k.source && (in_prefix r.destination k.destination && option_map_or (λ wanted. k.protocol == wanted) r.protocol true)
 
 abbrev pub matches : Selector → Key → Bool
 matches (Ip r) (key.Conversation k) = ip_matches r k
 matches (Ip r) (key.Station k) = false
 matches (Mac s) (key.Conversation k) = false
-matches (Mac s) (key.Station k) = station_is s k
+matches (Mac s) (key.Station k) = option_map_or (λ (one : Station). bytes_eq one.source k.source) s true
 
 abbrev pub next : Option ℕ → Option ℕ
 next (Some i) = Some (suc i)

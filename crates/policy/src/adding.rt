@@ -49,7 +49,8 @@ impl<M: Copy> Policy<M> {
         }
     }
 
-    // Whether there may be one more rule, and how many there are with it.
+    // Whether there may be one more rule, and how many there are with it. The number of a next node differs in count,
+    // bound and refusal: a common function would take all three, and say less.
     pub fn rule_room(&self) -> Result<usize, Refusal>
         ensures { result ≡ rule_room_of (length self.now.rules.items) }
     {
@@ -60,6 +61,7 @@ impl<M: Copy> Policy<M> {
     }
 
     // One node more, with the next number. What is refused leaves the policy as it was.
+    #[tactic(auto, using(crate::proofs::Pushed::under_more, crate::proofs::Pushed::earlier_push, crate::proofs::Pushed::shallow_push))]
     pub fn add_node(&mut self, number: u64, parent: u64, meter: M) -> Result<(), AddError>
         ensures { NodeAdded self.old self.new number parent meter result }
     {

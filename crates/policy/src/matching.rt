@@ -1,10 +1,10 @@
 // Which rule a key has: the first that is for it.
 ghost use Rattle.std.specs.Prelude.{◌≡◌, map};
-ghost use Rattle.policy.specs.Rules.{refusal_number, prefix_of, in_prefix, protocol_is, ip_matches, station_is, matches, first_for, First};
+ghost use Rattle.policy.specs.Rules.{refusal_number, prefix_of, in_prefix, ip_matches, matches, first_for, First};
 
 use crate::policies::Policy;
 use crate::rules::{IpRule, Prefix, Refusal, Rule, Selector};
-use packet::kinds::{Address, Conversation, Key, Station};
+use packet::kinds::{Address, Conversation, Key};
 
 // How many bits an address has.
 pub const ADDRESS_BITS: u8 = 32;
@@ -14,11 +14,9 @@ impl Refusal {
         ensures { result ≡ refusal_number self }
     {
         match self {
-            Refusal::WrongNumber => 5,
-            Refusal::UnknownParent => 5,
+            Refusal::WrongNumber | Refusal::UnknownParent => 5,
             Refusal::TooDeep => 6,
-            Refusal::TooManyNodes => 7,
-            Refusal::TooManyRules => 7,
+            Refusal::TooManyNodes | Refusal::TooManyRules => 7,
         }
     }
 }
@@ -28,13 +26,9 @@ impl Prefix {
     pub fn new(address: Address, length: u8) -> Option<Prefix>
         ensures { result ≡ prefix_of address length }
     {
-        if length > ADDRESS_BITS {
-            return None;
-        }
-        if u64::from(address.0) % (1u64 << (ADDRESS_BITS - length)) != 0 {
-            return None;
-        }
-        Some(Prefix { address, length })
+        let beyond = ADDRESS_BITS.checked_sub(length)?;
+        let fits = u64::from(address.0) % (1u64 << beyond) == 0;
+        fits.then_some(Prefix { address, length })
     }
 
     // Whether the address has the first bits of the prefix.
@@ -53,25 +47,7 @@ impl IpRule {
     {
         self.source.holds(key.source)
             && self.destination.holds(key.destination)
-            && is_protocol(self.protocol, key.protocol)
-    }
-}
-
-fn is_protocol(wanted: Option<u8>, protocol: u8) -> bool
-    ensures { result ≡ protocol_is wanted protocol }
-{
-    match wanted {
-        None => true,
-        Some(number) => protocol == number,
-    }
-}
-
-fn is_station(wanted: Option<Station>, station: Station) -> bool
-    ensures { result ≡ station_is wanted station }
-{
-    match wanted {
-        None => true,
-        Some(one) => one.source == station.source,
+            && self.protocol.is_none_or(|wanted| wanted == key.protocol)
     }
 }
 
@@ -82,9 +58,10 @@ impl Selector {
     {
         match (*self, key) {
             (Selector::Ip(rule), Key::Conversation(conversation)) => rule.matches(conversation),
-            (Selector::Mac(wanted), Key::Station(station)) => is_station(wanted, station),
-            (Selector::Ip(_), Key::Station(_)) => false,
-            (Selector::Mac(_), Key::Conversation(_)) => false,
+            (Selector::Mac(wanted), Key::Station(station)) => {
+                wanted.is_none_or(|one| one == station)
+            }
+            (Selector::Ip(_), Key::Station(_)) | (Selector::Mac(_), Key::Conversation(_)) => false,
         }
     }
 }
@@ -94,12 +71,7 @@ pub fn first_for<M: Copy>(rules: &[Rule<M>], key: Key) -> Option<usize>
     ensures value { result ≡ first_for (map (λ x. x.selector) rules.now) key }
     ensures first { First (map (λ x. x.selector) rules.now) key result }
 {
-    for (i, rule) in rules.iter().enumerate() {
-        if rule.selector.matches(key) {
-            return Some(i);
-        }
-    }
-    None
+    rules.iter().position(|rule| rule.selector.matches(key))
 }
 
 impl<M: Copy> Policy<M> {

@@ -12,20 +12,6 @@ pub const MOST_NODES: u8 = 32;
 
 pub const MOST_DEPTH: u8 = 7;
 
-// Plain recursion up the parents: the number falls at each call.
-fn depth_from(parents: &[u8], node: u8) -> u8
-    requires earlier { Earlier parents.now }
-    requires law { DepthLaw parents.now }
-    requires inside { node ≤ length parents.now }
-    ensures value { result ≡ depth_of parents.now node }
-    ensures bound { result ≤ node }
-{
-    if node == 0 {
-        return 0;
-    }
-    1 + depth_from(parents, parents[node as usize - 1])
-}
-
 impl Tree {
     pub fn new(heap: Global) -> Tree
         ensures { parents_of result ≡ [] }
@@ -36,6 +22,7 @@ impl Tree {
     }
 
     // The parent of each node, in their order.
+    #[tactic(auto, using(crate::proofs::Ancestry::depth_law))]
     pub fn parents(&self) -> &[u8]
         ensures value { result.now ≡ parents_of self.now }
         ensures earlier { Earlier result.now }
@@ -44,7 +31,7 @@ impl Tree {
         &self.parents
     }
 
-    // How many nodes there are: also the number of the last.
+    // How many nodes there are, which fits by `few`: also the number of the last.
     pub fn count(&self) -> u8
         ensures { result ≡ length (parents_of self.now) }
     {
@@ -55,22 +42,33 @@ impl Tree {
     pub fn parent(&self, node: u8) -> Option<u8>
         ensures { result ≡ parent_in (parents_of self.now) node }
     {
-        if node == 0 || node > self.count() {
-            return None;
-        }
-        Some(self.parents[node as usize - 1])
+        let place = usize::from(node).checked_sub(1)?;
+        self.parents.get(place).copied()
     }
 
     // None for a number above the last node.
+    #[tactic(auto, using(crate::proofs::Ancestry::depth_law))]
     pub fn depth(&self, node: u8) -> Option<u8>
         ensures value { result ≡ depth_in (parents_of self.now) node }
         ensures law { DepthLaw (parents_of self.now) }
     {
-        let parents = self.parents();
-        if usize::from(node) > parents.len() {
+        if node > self.count() {
             return None;
         }
-        Some(depth_from(parents, node))
+        Some(self.depth_from(node))
+    }
+
+    // Plain recursion up a plain table of parents: the number falls at each call.
+    #[tactic(auto, using(crate::proofs::Ancestry::depth_more))]
+    fn depth_from(&self, node: u8) -> u8
+        requires { node ≤ length (parents_of self.now) }
+        ensures value { result ≡ depth_of (parents_of self.now) node }
+        ensures bound { result ≤ node }
+    {
+        if node == 0 {
+            return 0;
+        }
+        1 + self.depth_from(self.parents[usize::from(node) - 1])
     }
 
     // The number of the next node, if there may be one more.
@@ -88,10 +86,11 @@ impl Tree {
     pub fn number(&self, number: u64) -> Result<u8, Refusal>
         ensures { result ≡ number_of (parents_of self.now) number }
     {
-        if number != u64::from(self.count()) + 1 {
+        let next = self.count() + 1;
+        if number != u64::from(next) {
             return Err(Refusal::WrongNumber);
         }
-        Ok(number as u8)
+        Ok(next)
     }
 
     // What a rule may lie under.
@@ -99,10 +98,10 @@ impl Tree {
         ensures value { result ≡ known_of (parents_of self.now) parent }
         ensures known { IfOk result (λ p. p ≤ length (parents_of self.now)) }
     {
-        if parent > u64::from(self.count()) {
-            return Err(Refusal::UnknownParent);
+        match u8::try_from(parent) {
+            Ok(parent) if parent <= self.count() => Ok(parent),
+            _ => Err(Refusal::UnknownParent),
         }
-        Ok(parent as u8)
     }
 
     // What a new node may lie under.
@@ -110,12 +109,14 @@ impl Tree {
         ensures { result ≡ under_of (parents_of self.now) parent }
     {
         let parent = self.known(parent)?;
-        if depth_from(self.parents(), parent) >= MOST_DEPTH {
+        if self.depth_from(parent) >= MOST_DEPTH {
             return Err(Refusal::TooDeep);
         }
         Ok(parent)
     }
+
     // The parent of a new node with this number: all that is asked of one, in its order.
+    #[tactic(auto, using(crate::proofs::Taken::made_placed))]
     pub fn node(&self, number: u64, parent: u64) -> Result<u8, Refusal>
         ensures value { result ≡ node_of (parents_of self.now) number parent }
         ensures placed { IfOk result (Placed (parents_of self.now)) }

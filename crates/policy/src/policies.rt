@@ -8,6 +8,7 @@ use crate::tree::Tree;
 #[derive(Drop)]
 pub struct Policy<M> {
     pub tree: Tree,
+    // A table of its own beside the parents: a depth is found from a plain table of those alone.
     pub meters: Vec<M>,
     pub rules: Vec<Rule<M>>,
     ghost beside: { vec_len meters ≡ vec_len tree.parents },

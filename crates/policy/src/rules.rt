@@ -1,34 +1,28 @@
 // The plain types: which frames a rule is for, and why a node or a rule is not taken.
+use meter::measures::Mode;
 use packet::kinds::{Address, Class, Station};
 
 // Addresses that agree in their first bits.
-#[derive(Clone, Copy)]
+#[derive(Clone, Copy, PartialEq, Eq, Debug)]
 pub struct Prefix {
     pub(crate) address: Address,
     pub(crate) length: u8,
 }
 
-// Whether a packet is judged by the mark that it arrives with.
-#[derive(Clone, Copy, PartialEq, Debug)]
-pub enum Mode {
-    // as green, whatever its mark
-    Blind,
-    Aware,
-}
-
 // A rule for conversations.
-#[derive(Clone, Copy)]
+#[derive(Clone, Copy, PartialEq, Eq, Debug)]
 pub struct IpRule {
     pub source: Prefix,
     pub destination: Prefix,
     // None is any
     pub protocol: Option<u8>,
     pub class: Class,
+    // whether a packet is judged by the mark that it arrives with
     pub mode: Mode,
 }
 
 // The frames that a rule is for.
-#[derive(Clone, Copy)]
+#[derive(Clone, Copy, PartialEq, Eq, Debug)]
 pub enum Selector {
     Ip(IpRule),
     // None is any station
@@ -36,7 +30,7 @@ pub enum Selector {
 }
 
 // A rule: its frames, the node that they lie under, 0 for none, and the meter that each flow starts with.
-#[derive(Clone, Copy)]
+#[derive(Clone, Copy, PartialEq, Eq, Debug)]
 pub struct Rule<M> {
     pub selector: Selector,
     pub parent: u8,
@@ -44,7 +38,7 @@ pub struct Rule<M> {
 }
 
 // Why a node or a rule is not taken.
-#[derive(Clone, Copy, PartialEq, Debug)]
+#[derive(Clone, Copy, PartialEq, Eq, Debug)]
 pub enum Refusal {
     // a node's number that is not the next
     WrongNumber,
@@ -57,7 +51,7 @@ pub enum Refusal {
 }
 
 // Why nothing was added.
-#[derive(Clone, Copy, PartialEq, Debug)]
+#[derive(Clone, Copy, PartialEq, Eq, Debug)]
 pub enum AddError {
     Refused(Refusal),
     NoMemory,

@@ -1,7 +1,8 @@
 // What a policy takes, and that what it refuses leaves its counts.
+use meter::measures::Mode;
 use packet::kinds::{Address, Class};
 use policy::policies::Policy;
-use policy::rules::{AddError, IpRule, Mode, Prefix, Selector};
+use policy::rules::{AddError, IpRule, Prefix, Selector};
 use std::process::Abort;
 use std::test::Fail;
 
@@ -59,9 +60,7 @@ fn numbers_and_parents(rt: HostRuntime) -> Result<(), Fail> {
 
 // Every conversation.
 fn any() -> Result<Selector, Fail> {
-    let Some(prefix) = Prefix::new(Address(0), 0) else {
-        return Err(Fail::new("no prefix"));
-    };
+    let prefix = Prefix::new(Address(0), 0).ok_or("no prefix")?;
     Ok(Selector::Ip(IpRule {
         source: prefix,
         destination: prefix,

@@ -1,15 +1,13 @@
 // Prefixes just inside and outside, and which rule a key has.
+use meter::measures::Mode;
 use packet::kinds::{Address, Class, Conversation, Key, Station};
 use policy::policies::Policy;
-use policy::rules::{IpRule, Mode, Prefix, Selector};
+use policy::rules::{IpRule, Prefix, Selector};
 use std::test::Fail;
 
 // Whether the address lies in the prefix, where it is one.
 fn within(prefix: u32, length: u8, address: u32) -> Option<bool> {
-    match Prefix::new(Address(prefix), length) {
-        Some(prefix) => Some(prefix.holds(Address(address))),
-        None => None,
-    }
+    Prefix::new(Address(prefix), length).map(|prefix| prefix.holds(Address(address)))
 }
 
 #[test]

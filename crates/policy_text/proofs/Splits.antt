@@ -1,16 +1,26 @@
 -- The lines of a text one by one, as the reader takes them and the policy grows.
 -- Kept: what the reader's loop keeps, of the text, the policy so far, the number of its lines, and what is left of the text
 -- Assumes nothing.
-use Rattle.std.proofs.Common.{◌≡◌, ℕ, suc, ◌+◌, ◌<◌, ◌≤◌, Bool, true, false, cond, ◌||◌, eqb, ltb, leb, List, [], ◌∷◌, ◌++◌, map, length, take, drop, Ok, Err, vec_items, Result, sym, refl, ap, ◌∙◌, ⊎_elim, append-nil, add-one, arith}
-use Rattle.std.proofs.lemmas.List.{length-take-le, length-drop, length-map, map_push}
-use Rattle.std.proofs.lemmas.Bool.{cases_lt, cond-true, cond-false, or_left, or_right, or_from, or_parts, le-leb, lt-leb, lt-ltb, le-ltb, leb-false}
+use Rattle.std.proofs.Common.{◌≡◌, ℕ, suc, ◌+◌, ◌<◌, ◌≤◌, Bool, true, false, Bor, cond, ◌||◌, eqb, ltb, leb, List, [], ◌∷◌, ◌++◌, map, length, take, drop, Some, Ok, Err, vec_items, MatchOption, Option, Result, subst, sym, refl, ap, ◌∙◌, ⊎_elim, inl, inr, append-nil, append_assoc, add-one, arith, MatchResult, length-append, min}
+use Rattle.std.proofs.lemmas.List.{nil_from_length, length_push, take_at, drop_at, length-take-le, length-drop, length-map, map_push}
+use denote.Param.Members.{Mut}
+use Rattle.std.specs.declared.iter.Enumerate.{Enumerate}
+use Rattle.std.specs.declared.slice.SplitInclusive.{SplitInclusive}
+use Rattle.std.specs.Fn.{ComputesKey}
+use Rattle.std.specs.Iterator.{Yields}
+use Rattle.std.specs.Iterator.Adapters.{enumerate_source, enumerate_count, enumerate_steps}
+use Rattle.std.specs.Slice.Iter.{split_inclusive_rest, split_inclusive_callee}
+use Rattle.std.specs.List.{IsFirstMatchOrLen, position_or_len}
+use Rattle.std.proofs.lemmas.List.Sums.{position_or_len_is}
+use Rattle.std.proofs.lemmas.List.Recursion.{is_position_or_len}
+use Rattle.std.proofs.lemmas.Bool.{cases_lt, cond-true, cond-false, or_left, or_right, or_from, or_parts, le-leb, lt-leb, lt-ltb, le-ltb, leb-false, eqb-true}
 use Rattle.kinds.specs.declared.profiles.AnyMeter.{AnyMeter}
 use Rattle.kinds.specs.declared.profiles.Profile.{Profile}
 use Rattle.policy.specs.declared.rules.Rule as rules
 use Rattle.policy.specs.declared.policies.Policy.{Policy}
 use Rattle.policy.specs.Policies.{NodeAdded, RuleAdded}
 use Rattle.policy_words.specs.Words.{then}
-use Rattle.policy_words.proofs.Readings.{then_ok, ok_cond, same_ok}
+use Rattle.policy_words.proofs.Readings.{then_ok, then_then, ok_cond, same_ok}
 use Rattle.policy_text.specs.declared.lines.LineFault.{LineFault}
 use Rattle.policy_text.specs.declared.lines.NodeLine.{NodeLine}
 use Rattle.policy_text.specs.declared.lines.Line.{Line}
@@ -18,9 +28,16 @@ use Rattle.policy_text.specs.declared.lines.Line.TheVariants.{Node, Rule}
 use Rattle.policy_text.specs.declared.reader.Fault.{Fault}
 use Rattle.policy_text.specs.Lines.{line_of}
 use Rattle.policy_text.specs.Texts.{LineOk}
-use Rattle.policy_text.specs.Policies.{lined, broken, nodes_in, rules_in, parents_in, count_in, onto, lines_of, read_from, read_after, line_len, first_by, first_line, step_of, Worth, worth_of, worth_in, Sells, rule_worth, Built, Grown}
-use Rattle.policy_text.proofs.Tails.{then_then}
+use Rattle.policy_text.specs.Policies.{lined, broken, nodes_in, rules_in, parents_in, count_in, onto, lines_of, read_from, read_after, line_len, first_by, first_line, IsFirstLine, step_of, Worth, worth_of, worth_in, Sells, rule_worth, Built, Grown}
 use Rattle.policy_text.proofs.Written.{line_back}
+
+-- a line ends at the first line feed
+line_position : (t : List ℕ) → line_len t ≡ position_or_len (λ b. eqb b 10) t
+line_position t = is_position_or_len line_len (λ b. eqb b 10) refl (λ c cs. turned (eqb c 10) (line_len cs)) t
+  where
+    turned : (b : Bool) (k : ℕ) → cond b 0 (suc k) ≡ cond b 0 (1 + k)
+    turned true k = refl
+    turned false k = omega arith
 
 cut_some : (t : List ℕ) → line_len t < length t → lines_of t ≡ (take (line_len t) t ∷ (lines_of (drop (suc (line_len t)) t)).0, (lines_of (drop (suc (line_len t)) t)).1)
 cut_some [] h = absurd (omega arith)
@@ -49,6 +66,143 @@ first_long n t h = cond-true (leb (length t) n || ltb 120 n) _ _ (or_right (leb 
 
 first_none : (n : ℕ) (t : List ℕ) → length t ≤ n → first_by n t ≡ Err broken
 first_none n t h = cond-true (leb (length t) n || ltb 120 n) _ _ (or_left (leb (length t) n) (ltb 120 n) (le-leb (length t) n h))
+
+-- a first line with its end has no line feed before that
+
+pub same_front : (p q : List ℕ) → p ++ 10 ∷ [] ≡ q ++ 10 ∷ [] → length p ≡ length q
+same_front p q e = omega (arith, ap length e, length_push p 10, length_push q 10)
+
+end_near : (p r : List ℕ) → line_len (p ++ 10 ∷ r) ≤ length p
+end_near [] r = omega arith
+end_near (c ∷ cs) r = let h = end_near cs r in
+    elim (eqb c 10) as (λ b. cond b 0 (suc (line_len (cs ++ 10 ∷ r))) ≤ suc (length cs)) [ true ↦ omega arith | false ↦ omega arith ]
+
+front_is : (l after : List ℕ) → line_len (l ++ after) + 1 ≡ length l → l ≡ take (line_len (l ++ after)) l ++ 10 ∷ []
+front_is [] after h = absurd (omega arith)
+front_is (c ∷ cs) after h = go (eqb c 10) refl (λ k. front_is cs after k) h
+  where
+    go : (b : Bool) → eqb c 10 ≡ b → (line_len (cs ++ after) + 1 ≡ length cs → cs ≡ take (line_len (cs ++ after)) cs ++ 10 ∷ [])
+        → cond b 0 (suc (line_len (cs ++ after))) + 1 ≡ suc (length cs) → c ∷ cs ≡ take (cond b 0 (suc (line_len (cs ++ after)))) (c ∷ cs) ++ 10 ∷ []
+    go true e ih k =
+        let none : cs ≡ [] = nil_from_length cs (omega arith) in
+        (λ i. eqb-true c 10 e i ∷ none i)
+    go false e ih k = ap (λ l. c ∷ l) (ih (omega arith))
+
+pub piece_ok : (l p after : List ℕ) → l ≡ p ++ 10 ∷ [] → length p ≤ 120 → IsFirstLine l after → first_line (l ++ after) ≡ Ok (p, after)
+piece_ok l p after is fits first =
+    ⊎_elim
+    (λ (h : line_len (l ++ after) + 1 ≡ length l).
+    let t = l ++ after in
+    let n = line_len t in
+    let long : length l ≡ length p + 1 = ap length is ∙ length_push p 10 in
+    let at : length p ≡ n = omega arith in
+    let whole : t ≡ p ++ (10 ∷ after) = ap (λ x. x ++ after) is ∙ append_assoc p (10 ∷ []) after in
+    let inside : n < length t = omega (arith, length-append l after) in
+    first_ok n t inside (omega arith)
+    ∙ (λ i. Ok ((ap (take n) whole ∙ take_at p (10 ∷ after) n at) i, drop_at l after (n + 1) (sym h) i)))
+    (λ h. absurd (omega (arith, h.1, end_near p [], ap length is, length_push p 10, ap line_len is)))
+    first
+
+pub piece_err : (l after : List ℕ) → ((p : List ℕ) → l ≡ p ++ 10 ∷ [] → 120 < length p) → IsFirstLine l after → first_line (l ++ after) ≡ Err broken
+piece_err l after bad first =
+    ⊎_elim
+    (λ (h : line_len (l ++ after) + 1 ≡ length l).
+    let n = line_len (l ++ after) in
+    first_long n (l ++ after) (omega (arith, bad (take n l) (front_is l after h), length-take-le n l (omega arith))))
+    (λ h.
+    let same : l ++ after ≡ l = ap (λ x. l ++ x) h.0 ∙ append-nil l in
+    first_none (line_len (l ++ after)) (l ++ after) (omega (arith, h.1, ap length same, ap line_len same)))
+    first
+
+-- what cutting a line says of it, by whether the line was cut
+
+abbrev pub IsCut : List ℕ → Result (Bor (List ℕ)) LineFault → Type 0
+IsCut l r = MatchResult r (λ p. (l ≡ p.now ++ 10 ∷ []) × (length p.now ≤ 120)) (λ e. (e ≡ broken) × ((p : List ℕ) → l ≡ p ++ 10 ∷ [] → 120 < length p))
+
+pub cut_ok : (k : ℕ) (l : List ℕ) (r : Result (Bor (List ℕ)) LineFault) (p : Bor (List ℕ)) → IsCut l r → lined k r ≡ Ok p → (l ≡ p.now ++ 10 ∷ []) × (length p.now ≤ 120)
+cut_ok k l (Ok q) p m h =
+    let P : Bor (List ℕ) → Type 0 = λ p. (l ≡ p.now ++ 10 ∷ []) × (length p.now ≤ 120) in
+    subst P (same_ok h) m
+cut_ok k l (Err e) p m h = cc
+
+pub cut_err : {A : Type 0} (k : ℕ) (l : List ℕ) (r : Result (Bor (List ℕ)) LineFault) (f : Fault) → IsCut l r → lined k r ≡ Err f → ((p : List ℕ) → l ≡ p ++ 10 ∷ [] → 120 < length p) × (lined {A = A} k (Err broken) ≡ Err f)
+cut_err k l (Ok q) f m h = cc
+cut_err {A} k l (Err e) f m h =
+    let same : ◌≡◌ {A = Fault} (record { line = k; word = e.word; cause = e.cause }) f = cc in
+    (m.1, ap (λ (x : LineFault). lined {A = A} k (Err x)) (sym m.0) ∙ ap Err same)
+
+pub match_step : (r : Result Line Fault) (s : Result (Line × List ℕ) Fault) (after : List ℕ) → s ≡ then r (λ x. Ok (x, after)) → MatchResult r (λ x. s ≡ Ok (x, after)) (λ e. s ≡ Err e)
+match_step (Ok x) s after h = h
+match_step (Err e) s after h = h
+
+pub step_piece : (k : ℕ) (ps : List ℕ) (n : ℕ) (l p after : List ℕ) → l ≡ p ++ 10 ∷ [] → length p ≤ 120 → IsFirstLine l after
+    → step_of k ps n (l ++ after) ≡ then (lined k (line_of ps n p)) (λ x. Ok (x, after))
+unfolding step_of
+step_piece k ps n l p after is fits first =
+    ap (λ r. then (lined k r) (λ q. then (lined k (line_of ps n q.0)) (λ x. Ok (x, q.1)))) (piece_ok l p after is fits first)
+
+pub step_broken : (k : ℕ) (ps : List ℕ) (n : ℕ) (l after : List ℕ) → ((p : List ℕ) → l ≡ p ++ 10 ∷ [] → 120 < length p) → IsFirstLine l after
+    → step_of k ps n (l ++ after) ≡ lined k (Err broken)
+unfolding step_of
+step_broken k ps n l after bad first =
+    ap (λ r. then (lined k r) (λ q. then (lined k (line_of ps n q.0)) (λ x. Ok (x, q.1)))) (piece_err l after bad first)
+
+-- what the library cuts off is such a line
+pub first_cut : (l after : List ℕ) (i : ℕ) → length l ≡ min (i + 1) (length (l ++ after)) → IsFirstMatchOrLen (λ b. eqb b 10) (l ++ after) i → IsFirstLine l after
+first_cut l after i long is =
+    let t = l ++ after in
+    let p : ℕ → Bool = λ b. eqb b 10 in
+    let all : length t ≡ length l + length after = length-append l after in
+    ⊎_elim
+    (λ (h : i < length t).
+    let at : line_len t ≡ i = line_position t ∙ position_or_len_is p t i 0 (omega arith) (λ k b. is.0 k 0 (omega arith) b) (λ b. is.1 b 0) in
+    inl (omega (arith, at, long)))
+    (λ (h : length t ≤ i).
+    let none : after ≡ [] = nil_from_length after (omega (arith, long, all)) in
+    let at : line_len t ≡ length t = line_position t ∙ position_or_len_is p t (length t) 0 (omega arith) (λ k b. is.0 k 0 (omega arith) (omega arith)) (λ b. absurd (omega arith)) in
+    let same : t ≡ l = ap (λ x. l ++ x) none ∙ append-nil l in
+    inr (none, ap line_len (sym same) ∙ at ∙ ap length same))
+    (cases_lt i (length t))
+
+-- what the library says of a step of `split_inclusive`
+abbrev pub Cut : {F : Type 0} (g : Mut F (Bor ℕ × Unit {0}) Bool) → SplitInclusive ℕ F → Option (Bor (List ℕ)) → SplitInclusive ℕ F → Type 0
+Cut g s r t =
+    MatchOption r ((length (split_inclusive_rest s) ≡ 0) × (t ≡ s))
+    (λ x. (split_inclusive_rest s ≡ x.now ++ split_inclusive_rest t)
+    × ((i : ℕ) × (length x.now ≡ min (i + 1) (length (split_inclusive_rest s)))
+    × ((p : ℕ → Bool) → ComputesKey g p (split_inclusive_callee s) → ComputesKey g p (split_inclusive_callee t) × IsFirstMatchOrLen p (split_inclusive_rest s) i))
+    × (0 < length (split_inclusive_rest s)))
+
+abbrev pub is_end : ℕ → Bool
+is_end b = eqb b 10
+
+-- what each step keeps, all steps keep
+keeps_yields : {S A : Type 0} (steps : S → Option A → S → Type 0) (C : S → Type 0) → ((s : S) (x : A) (t : S) → steps s (Some x) t → C s → C t)
+    → (s : S) (xs : List A) (t : S) → Yields steps s xs t → C s → C t
+keeps_yields steps C next s [] t y h = subst C y h
+keeps_yields steps C next s (x ∷ xs) t y h = keeps_yields steps C next y.0 xs t y.2 (next s x y.0 y.1 h)
+
+pub ends_kept : {F : Type 0} (g : Mut F (Bor ℕ × Unit {0}) Bool) (s : Enumerate (SplitInclusive ℕ F)) (xs : List (ℕ × Bor (List ℕ))) (t : Enumerate (SplitInclusive ℕ F))
+    → Yields (enumerate_steps (Cut g)) s xs t → ComputesKey g is_end (split_inclusive_callee (enumerate_source s)) → ComputesKey g is_end (split_inclusive_callee (enumerate_source t))
+ends_kept g s xs t y h =
+    keeps_yields (enumerate_steps (Cut g)) (λ s. ComputesKey g is_end (split_inclusive_callee (enumerate_source s))) (λ s x t k h. (k.0.1.2 is_end h).0) s xs t y h
+
+-- a step takes the first line of what is left, with the number of lines before it
+pub record Turn (n m i : ℕ) (before l after : List ℕ) : Type 0 where
+  pub first : IsFirstLine l after
+  pub cut : before ≡ l ++ after
+  pub at : i ≡ n
+  pub next : m ≡ n + 1
+  pub some : 0 < length before
+
+pub turn : {F : Type 0} (g : Mut F (Bor ℕ × Unit {0}) Bool) (s t : Enumerate (SplitInclusive ℕ F)) (i : ℕ) (l : Bor (List ℕ)) → enumerate_steps (Cut g) s (Some (i, l)) t
+    → ComputesKey g is_end (split_inclusive_callee (enumerate_source s))
+    → Turn (enumerate_count s) (enumerate_count t) i (split_inclusive_rest (enumerate_source s)) l.now (split_inclusive_rest (enumerate_source t))
+turn g s t i l k h =
+    let after = split_inclusive_rest (enumerate_source t) in
+    let P : List ℕ → Type 0 = λ b. (length l.now ≡ min (k.0.1.0 + 1) (length b)) × IsFirstMatchOrLen is_end b k.0.1.0 in
+    let q : P (l.now ++ after) = subst P k.0.0 (k.0.1.1, (k.0.1.2 is_end h).1) in
+    record { first = first_cut l.now after k.0.1.0 q.0 q.1; cut = k.0.0; at = k.1; next = k.2; some = k.0.2 }
 
 -- a text that goes on is read by its first line, and then what follows
 pub step_is : (xs : List Line) (t : List ℕ) → 0 < length t
@@ -84,7 +238,7 @@ step_is xs (c ∷ cs) h =
 
 pub lined_ok : {A : Type 0} (n : ℕ) (r : Result A LineFault) (a : A) → lined n r ≡ Ok a → r ≡ Ok a
 lined_ok n (Ok x) a h = ap Ok (same_ok h)
-lined_ok n (Err e) a h = let z : ◌≡◌ {A = ℕ} 0 1 = cc in absurd (omega arith)
+lined_ok n (Err e) a h = cc
 
 -- each step leaves less
 pub step_less : (k : ℕ) (ps : List ℕ) (n : ℕ) (t : List ℕ) (p : Line × List ℕ) → step_of k ps n t ≡ Ok p → length p.1 < length t

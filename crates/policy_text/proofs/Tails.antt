@@ -8,8 +8,8 @@ use Rattle.kinds.specs.declared.profiles.Profile.{Profile}
 use Rattle.kinds.specs.declared.profiles.Profile.TheVariants.{Vs, Lb, Tb, Sr, Tr}
 use Rattle.packet.specs.declared.kinds.Class.{Class}
 use Rattle.packet.specs.declared.kinds.Class.TheVariants.{One}
-use Rattle.policy.specs.declared.rules.Mode.{Mode}
-use Rattle.policy.specs.declared.rules.Mode.TheVariants.{Blind}
+use Rattle.meter.specs.declared.measures.Mode.{Mode}
+use Rattle.meter.specs.declared.measures.Mode.TheVariants.{Blind}
 use Rattle.policy.specs.declared.rules.Prefix.{Prefix}
 use Rattle.policy.specs.declared.rules.Selector.TheVariants.{Ip, Mac}
 use Rattle.policy.specs.declared.rules.Refusal.{Refusal}
@@ -21,12 +21,10 @@ use Rattle.policy_words.specs.Addresses.{prefix_word_of}
 use Rattle.policy_words.specs.Choices.{protocol_of, class_word_of, mode_of}
 use Rattle.policy_words.specs.Texts.{word_on, prefix_text, station_text, protocol_text, class_text, mode_text}
 use Rattle.policy_words.specs.Laws.{Word}
-use Rattle.policy_words.proofs.Readings.{then_ok, lit_back, finish_back, same_ok}
+use Rattle.policy_words.proofs.Readings.{then_then, then_ok, lit_back, finish_back, same_ok}
 use Rattle.policy_words.proofs.Octets.{prefix_word, prefix_stop}
 use Rattle.policy_words.proofs.Hexes.{station_word, station_stop}
 use Rattle.policy_words.proofs.Chosen.{protocol_word, protocol_stop, class_word, class_stop, mode_word, mode_stop}
-use Rattle.policy_text.specs.declared.amounts.Amount.{Amount}
-use Rattle.policy_text.specs.declared.amounts.Amount.TheVariants.{Rate, Tolerance, Burst, LooseBurst, Excess, Peak}
 use Rattle.policy_text.specs.declared.lines.LineFault.{LineFault}
 use Rattle.policy_text.specs.declared.lines.NodeLine.{NodeLine}
 use Rattle.policy_text.specs.declared.lines.Line.{Line}
@@ -36,7 +34,7 @@ use Rattle.policy_text.specs.Amounts.{amount_of}
 use Rattle.policy_text.specs.Meters.{two_of, last_two_of, single_of, two_rate_of, meter_of}
 use Rattle.policy_text.specs.Lines.{taken, done, node_room, rule_room, number_word_of, under_word_of, node_line_of, conversations_of, treatment_of, ip_line_of, mac_line_of, line_of}
 use Rattle.policy_text.specs.Texts.{profile_text, ProfileOk, rule_text, line_text, LineOk}
-use Rattle.policy_text.proofs.Checks.{err_ok, placed_ok, Within, amount_word, amount_few, excess_one, peak_same, node_number_word, under_word, known_word, number_next, under_top, known_top, ok_before, buys}
+use Rattle.policy_text.proofs.Checks.{Amount, Rate, Tolerance, Burst, LooseBurst, Excess, Peak, check_of, err_ok, placed_ok, Within, amount_word, amount_few, excess_one, peak_same, node_number_word, under_word, known_word, number_next, under_top, known_top, ok_before, buys}
 use Rattle.policy_text.proofs.Spaces.{spaces, Adds, adds_word, adds_prefix, adds_station, adds_protocol, adds_class, adds_mode, Shared, shared_none, shared_on}
 
 -- where a reading failed
@@ -55,10 +53,6 @@ placed_err n (Err e) f h = sym (ap (λ x. x.word) (same_err h))
 pub choice_is : {A B E F : Type 0} (r : Result A E) (f : A → Result B F) (g y : Result B F) → choice r f g ≡ y → ((a : A) × (r ≡ Ok a) × (f a ≡ y)) ⊎ (g ≡ y)
 choice_is (Ok a) f g y h = inl (a, refl, h)
 choice_is (Err e) f g y h = inr h
-
-pub then_then : {A B C E : Type 0} (r : Result A E) (f : A → Result B E) (g : B → Result C E) → then (then r f) g ≡ then r (λ a. then (f a) g)
-then_then (Ok a) f g = refl
-then_then (Err e) f g = refl
 
 -- a text that is in order has the same words before the fault, the first of them being word w
 pub record Reaches {A : Type 0} (w : ℕ) (P : A → List ℕ → Type 0) (t : List ℕ) (f : LineFault) : Type 0 where
@@ -200,23 +194,23 @@ same w is tail = record {
 
 -- the meter
 
-pub two_on : {A : Type 0} (w : ℕ) (x y : Amount) (t : List ℕ) (K : (ℕ × ℕ) × List ℕ → Result A LineFault) → then (two_of w x y t) K ≡ then (placed w (amount_of x t)) (λ p. then (placed (w + 1) (amount_of y p.1)) (λ q. K ((p.0, q.0), q.1)))
+pub two_on : {A : Type 0} (w : ℕ) (x y : Amount) (t : List ℕ) (K : (ℕ × ℕ) × List ℕ → Result A LineFault) → then (two_of w (check_of x) (check_of y) t) K ≡ then (placed w (amount_of (check_of x) t)) (λ p. then (placed (w + 1) (amount_of (check_of y) p.1)) (λ q. K ((p.0, q.0), q.1)))
 unfolding two_of
 two_on w x y t K =
-    then_then (placed w (amount_of x t)) (λ p. then (placed (w + 1) (amount_of y p.1)) (λ q. Ok ((p.0, q.0), q.1))) K
-    ∙ (λ i. then (placed w (amount_of x t)) (λ p. then_then (placed (w + 1) (amount_of y p.1)) (λ q. Ok ((p.0, q.0), q.1)) K i))
+    then_then (placed w (amount_of (check_of x) t)) (λ p. then (placed (w + 1) (amount_of (check_of y) p.1)) (λ q. Ok ((p.0, q.0), q.1))) K
+    ∙ (λ i. then (placed w (amount_of (check_of x) t)) (λ p. then_then (placed (w + 1) (amount_of (check_of y) p.1)) (λ q. Ok ((p.0, q.0), q.1)) K i))
 
-pub last_two_on : {A : Type 0} (w : ℕ) (x y : Amount) (t : List ℕ) (G : ℕ × ℕ → Result A LineFault) → then (last_two_of w x y t) G ≡ then (placed w (amount_of x t)) (λ p. then (placed (w + 1) (amount_of y p.1)) (λ q. then (placed (w + 2) (finish q.1)) (λ _. G (p.0, q.0))))
+pub last_two_on : {A : Type 0} (w : ℕ) (x y : Amount) (t : List ℕ) (G : ℕ × ℕ → Result A LineFault) → then (last_two_of w (check_of x) (check_of y) t) G ≡ then (placed w (amount_of (check_of x) t)) (λ p. then (placed (w + 1) (amount_of (check_of y) p.1)) (λ q. then (placed (w + 2) (finish q.1)) (λ _. G (p.0, q.0))))
 unfolding last_two_of
 last_two_on w x y t G =
-    then_then (two_of w x y t) (λ p. then (placed (w + 2) (finish p.1)) (λ _. Ok p.0)) G
-    ∙ (λ i. then (two_of w x y t) (λ p. then_then (placed (w + 2) (finish p.1)) (λ _. Ok p.0) G i))
+    then_then (two_of w (check_of x) (check_of y) t) (λ p. then (placed (w + 2) (finish p.1)) (λ _. Ok p.0)) G
+    ∙ (λ i. then (two_of w (check_of x) (check_of y) t) (λ p. then_then (placed (w + 2) (finish p.1)) (λ _. Ok p.0) G i))
     ∙ two_on w x y t (λ p. then (placed (w + 2) (finish p.1)) (λ _. G p.0))
 
-amount_step : {A : Type 0} {P : A → List ℕ → Type 0} (w v : ℕ) (K : ℕ × List ℕ → Result A LineFault) → v ≡ w + 1 → (x : Amount) (d : ℕ) → Within x d → ((n : ℕ) → Within x n → Tail v (λ u. K (n, u)) (λ a u. P a (word_on n u))) → Tail w (λ t. then (placed w (amount_of x t)) K) P
+amount_step : {A : Type 0} {P : A → List ℕ → Type 0} (w v : ℕ) (K : ℕ × List ℕ → Result A LineFault) → v ≡ w + 1 → (x : Amount) (d : ℕ) → Within x d → ((n : ℕ) → Within x n → Tail v (λ u. K (n, u)) (λ a u. P a (word_on n u))) → Tail w (λ t. then (placed w (amount_of (check_of x) t)) K) P
 amount_step w v K next x d fine tail = step w v K next (amount_word x) (λ n h. adds_word n (amount_few x n h)) (λ n t. refl) d fine tail
 
-last_two : {A : Type 0} {P : A → List ℕ → Type 0} (w : ℕ) (x y : Amount) (d e : ℕ) → Within x d → Within y e → (g : ℕ → ℕ → A) → ((n m : ℕ) → Within x n → Within y m → P (g n m) (word_on n (word_on m []))) → Tail w (λ t. then (last_two_of w x y t) (λ p. Ok (g p.0 p.1))) P
+last_two : {A : Type 0} {P : A → List ℕ → Type 0} (w : ℕ) (x y : Amount) (d e : ℕ) → Within x d → Within y e → (g : ℕ → ℕ → A) → ((n m : ℕ) → Within x n → Within y m → P (g n m) (word_on n (word_on m []))) → Tail w (λ t. then (last_two_of w (check_of x) (check_of y) t) (λ p. Ok (g p.0 p.1))) P
 last_two w x y d e hd he g holds =
     same w (λ t. last_two_on w x y t (λ p. Ok (g p.0 p.1)))
     (amount_step w (w + 1) _ refl x d hd (λ n hn. amount_step (w + 1) (w + 2) _ (omega arith) y e he (λ m hm. ended (w + 2) (g n m) (holds n m hn hm))))

@@ -58,7 +58,7 @@ Read xs ls tail out = (ys : List Line) × (out ≡ xs ++ ys) × (ls ≡ map line
 from_back : (xs : List Line) (ls : List (List ℕ)) (tail : List ℕ) (out : List Line) → read_from xs ls tail ≡ Ok out → Read xs ls tail out
 unfolding read_from
 from_back xs [] [] out h = ([], sym (same_ok h) ∙ sym (append-nil xs), refl, refl, tt)
-from_back xs [] (c ∷ tail) out h = let z : ◌≡◌ {A = ℕ} 0 1 = cc in absurd (omega arith)
+from_back xs [] (c ∷ tail) out h = cc
 from_back xs (l ∷ ls) tail out h =
     let a = ok_cond (ltb 120 (length l)) _ _ out h in
     let b = then_ok (lined (length xs + 1) (line_of (parents_in xs) (count_in xs) l)) (λ x. read_from (xs ++ x ∷ []) ls tail) out a.1 in
@@ -102,7 +102,7 @@ rule_room_lem ps n (Rule r) h ok = let room = go (ltb n 64) refl ok.0 in omega a
   where
     go : (b : Bool) → ltb n 64 ≡ b → before (cond b (Ok (n + 1)) (Err TooManyRules)) (known_of ps r.parent) ≡ Ok r.parent → n < 64
     go true e h = ltb-true n 64 e
-    go false e h = let z : ◌≡◌ {A = ℕ} 0 1 = cc in absurd (omega arith)
+    go false e h = cc
 
 -- what the lines before allow, with one line more
 nodes_more : (xs : List Line) (y : Line) → length (parents_in xs) ≤ 32 → LineOk (parents_in xs) (count_in xs) y → length (parents_in (xs ++ y ∷ [])) ≤ 32
@@ -183,7 +183,7 @@ here xs l rest f tidy none e at =
 
 from_first : (xs : List Line) (ls : List (List ℕ)) (tail : List ℕ) (f : Fault) → Cleans ls → clean tail ≡ true → read_from xs ls tail ≡ Err f → Stops xs (join ls tail) f
 unfolding read_from
-from_first xs [] [] f tidy end h = let z : ◌≡◌ {A = ℕ} 0 1 = cc in absurd (omega arith)
+from_first xs [] [] f tidy end h = cc
 from_first xs [] (c ∷ tail) f tidy end h =
     let is = sym (same_err h) in
     subst (λ t. Stops xs t f) (append-nil (c ∷ tail))

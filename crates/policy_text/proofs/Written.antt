@@ -14,8 +14,6 @@ use Rattle.policy_words.proofs.Readings.{then_ok, lit_back, lit_forth}
 use Rattle.policy_words.proofs.Octets.{prefix_word, prefix_stop}
 use Rattle.policy_words.proofs.Hexes.{station_word, station_stop}
 use Rattle.policy_words.proofs.Chosen.{protocol_word, protocol_stop, class_word, class_stop, mode_word, mode_stop}
-use Rattle.policy_text.specs.declared.amounts.Amount.{Amount}
-use Rattle.policy_text.specs.declared.amounts.Amount.TheVariants.{Rate, Tolerance, Burst, LooseBurst, Excess, Peak}
 use Rattle.policy_text.specs.declared.lines.LineFault.{LineFault}
 use Rattle.policy_text.specs.declared.lines.Line.{Line}
 use Rattle.policy_text.specs.declared.lines.Line.TheVariants as line
@@ -24,7 +22,7 @@ use Rattle.policy_text.specs.Meters.{last_two_of, single_of, two_rate_of, meter_
 use Rattle.policy_text.specs.Lines.{taken, done, node_room, rule_room, node_line_of, ip_line_of, mac_line_of, line_of}
 use Rattle.policy_text.specs.Texts.{profile_text, ProfileOk, rule_text, SelectorOk, line_text, LineOk}
 use Rattle.policy_text.specs.Laws.{LineCanonical}
-use Rattle.policy_text.proofs.Checks.{placed_ok, Within, amount_word, node_number_word, under_word, known_word, number_keeps, number_is, known_low, under_low, before_ok, Bought, bought_by}
+use Rattle.policy_text.proofs.Checks.{Amount, Rate, Tolerance, Burst, LooseBurst, Excess, Peak, check_of, placed_ok, Within, amount_word, node_number_word, under_word, known_word, number_keeps, number_is, known_low, under_low, before_ok, Bought, bought_by}
 use Rattle.policy_text.proofs.Tails.{Headed, node_headed, ip_headed, mac_headed, line_by, two_on, last_two_on, conversations_on, treatment_on}
 
 headed_back : (ps : List ℕ) (n : ℕ) (ks : List ℕ) (room : Result (Unit {0}) Cause) (reads : List ℕ → Result Line LineFault) → Headed ps n ks room reads → (t u : List ℕ) (x : Line) → lit ks t ≡ Ok u → then (placed 1 room) (λ _. reads u) ≡ Ok x → (t ≡ line_text x) × LineOk ps n x
@@ -60,7 +58,7 @@ must_on w ks u K h = ap (λ y. then (placed w y) K) (lit_forth ks u h)
 room_on : {A : Type 0} (w : ℕ) (r : Result ℕ Refusal) (q : ℕ) (K : Unit {0} → Result A LineFault) → r ≡ Ok q → then (placed w (done (taken r))) K ≡ K tt
 room_on w r q K h = ap (λ y. then (placed w (done (taken y))) K) h
 
-last_two_forth : {A : Type 0} (w : ℕ) (x y : Amount) (a b : ℕ) (G : ℕ × ℕ → Result A LineFault) → Within x a → Within y b → then (last_two_of w x y (word_on a (word_on b []))) G ≡ G (a, b)
+last_two_forth : {A : Type 0} (w : ℕ) (x y : Amount) (a b : ℕ) (G : ℕ × ℕ → Result A LineFault) → Within x a → Within y b → then (last_two_of w (check_of x) (check_of y) (word_on a (word_on b []))) G ≡ G (a, b)
 last_two_forth w x y a b G h g =
     last_two_on w x y (word_on a (word_on b [])) G ∙ step_on w _ a (word_on b []) (amount_word x) h refl ∙ step_on (w + 1) _ b [] (amount_word y) g refl
 

@@ -7,7 +7,7 @@
 use Rattle.std.specs.Prelude.{ℕ, List, Ok, Err, codes, Option, Result}
 use Rattle.kinds.specs.declared.profiles.Profile.{Profile}
 use Rattle.packet.specs.declared.kinds.Class.{Class}
-use Rattle.policy.specs.declared.rules.Mode.{Mode}
+use Rattle.meter.specs.declared.measures.Mode.{Mode}
 use Rattle.policy.specs.declared.rules.Prefix.{Prefix}
 use Rattle.policy.specs.declared.rules.Refusal.{Refusal}
 use Rattle.policy.specs.declared.rules.Rule.{Rule}
@@ -15,7 +15,7 @@ use Rattle.policy.specs.declared.rules.Selector.TheVariants.{Ip, Mac}
 use Rattle.policy.specs.Policies.{room_of, number_of, under_of, known_of, rule_room_of}
 use Rattle.policy_words.specs.declared.causes.Cause.{Cause}
 use Rattle.policy_words.specs.declared.causes.Cause.TheVariants.{Refused}
-use Rattle.policy_words.specs.Words.{then, choice, lit, field}
+use Rattle.policy_words.specs.Words.{then, choice, lit, judged}
 use Rattle.policy_words.specs.Addresses.{prefix_word_of, station_of}
 use Rattle.policy_words.specs.Choices.{protocol_of, class_word_of, mode_of}
 use Rattle.policy_text.specs.declared.lines.LineFault.{LineFault}
@@ -38,18 +38,14 @@ node_room ps = done (taken (room_of ps))
 abbrev pub rule_room : ℕ → Result (Unit {0}) Cause
 rule_room n = done (taken (rule_room_of n))
 
--- a number that a check of the policy takes: its form first
-abbrev pub judged : (ℕ → Result ℕ Refusal) → List ℕ → Result (ℕ × List ℕ) Cause
-judged check t = then (field t) (λ p. then (taken (check p.0)) (λ n. Ok (n, p.1)))
-
 unfoldable pub number_word_of : List ℕ → List ℕ → Result (ℕ × List ℕ) Cause
-number_word_of ps t = judged (number_of ps) t
+number_word_of ps t = judged (λ n. taken (number_of ps n)) t
 
 unfoldable pub under_word_of : List ℕ → List ℕ → Result (ℕ × List ℕ) Cause
-under_word_of ps t = judged (under_of ps) t
+under_word_of ps t = judged (λ n. taken (under_of ps n)) t
 
 unfoldable pub known_word_of : List ℕ → List ℕ → Result (ℕ × List ℕ) Cause
-known_word_of ps t = judged (known_of ps) t
+known_word_of ps t = judged (λ n. taken (known_of ps n)) t
 
 -- a node too many is refused before the rest
 unfoldable pub node_line_of : List ℕ → List ℕ → Result NodeLine LineFault

@@ -3,7 +3,7 @@
 -- nodes_in, rules_in: the nodes and the rules of some lines; parents_in, count_in: the parents of the nodes, the number of rules
 -- cut_at: a text in the parts that a byte ends, and what follows the last; words_of: the words of a line
 -- read_from, read_after: the lines behind others, of parts and of a text; read_text: the lines of a text, or its first fault
--- line_len, first_line, step_of: the same, line by line
+-- line_len, first_line, IsFirstLine, step_of: the same, line by line
 -- text_of: how lines are written; LinesOk: lines that may stand behind others
 -- Worth, worth_of, worth_in: what a meter is, and what a profile buys; Sells, Grown, Built: the policy of lines
 -- Answered, Canonical, Gives: what the reader answers; Begun, AtFault, Follows, First: its fault is the first
@@ -99,6 +99,10 @@ first_by n t = cond (nat_le (length t) n || nat_lt longest_line n) (Err broken) 
 
 abbrev pub first_line : List ℕ → Result (List ℕ × List ℕ) LineFault
 first_line t = first_by (line_len t) t
+
+-- l is the first line of the text l ++ after, with the byte that ends it, or a text in which none ends
+abbrev pub IsFirstLine : List ℕ → List ℕ → Type 0
+IsFirstLine l after = (line_len (l ++ after) + 1 ≡ length l) ⊎ ((after ≡ []) × (line_len l ≡ length l))
 
 unfoldable pub step_of : ℕ → List ℕ → ℕ → List ℕ → Result (Line × List ℕ) Fault
 step_of k ps n t = then (lined k (first_line t)) (λ p. then (lined k (line_of ps n p.0)) (λ x. Ok (x, p.1)))

@@ -6,8 +6,8 @@ use kinds::profiles::Profile;
 use policy::rules::Rule;
 use policy_words::causes::Cause;
 
-// The word of a line that is refused, from 1, and why. Word 0 is the line as a whole.
-#[derive(Clone, Copy, PartialEq, Debug)]
+// The word of a line that is refused, from 1, and why. Word 0 is the line as a whole: so it is printed.
+#[derive(Clone, Copy, PartialEq, Eq, Debug)]
 pub struct LineFault {
     pub word: u8,
     pub cause: Cause,
@@ -28,12 +28,10 @@ pub enum Line {
     Rule(Rule<Profile>),
 }
 
-// What a word's reader answered, with the word's place added to its fault.
+// What a word's reader answered, with the word's place added to its fault. The place is written at each reading: a
+// counter beside the text would stand in every contract.
 pub(crate) fn at<T>(word: u8, read: Result<T, Cause>) -> Result<T, LineFault>
     ensures { result ≡ placed word read }
 {
-    match read {
-        Ok(value) => Ok(value),
-        Err(cause) => Err(LineFault { word, cause }),
-    }
+    read.map_err(|cause| LineFault { word, cause })
 }

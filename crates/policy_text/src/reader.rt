@@ -1,10 +1,10 @@
 // A policy: its lines, each ended by a line feed.
-ghost use Rattle.std.specs.Prelude.{◌≡◌, List, [], length, Ok, Err, MatchResult};
+ghost use Rattle.std.specs.Prelude.{◌≡◌, ℕ, ◌<◌, ◌≤◌, List, [], ◌∷◌, ◌++◌, length, Ok, Err, MatchResult};
 ghost use Rattle.policy.specs.Policies.{parents_of};
 ghost use Rattle.policy_text.specs.declared.lines.Line.{Line};
 ghost use Rattle.policy_text.specs.declared.reader.PolicyFault.TheVariants.{Memory, At};
 ghost use Rattle.policy_text.specs.Texts.{ProfileOk, LineOk};
-ghost use Rattle.policy_text.specs.Policies.{lined, line_len, first_line, step_of, text_of, LinesOk, Sells, Grown, Answered, Canonical, Gives, First};
+ghost use Rattle.policy_text.specs.Policies.{longest_line, lined, broken, step_of, IsFirstLine, text_of, LinesOk, Sells, Grown, Answered, Canonical, Gives, First};
 
 use crate::lines::{Line, LineFault};
 use crate::rule_lines::read_line;
@@ -14,8 +14,9 @@ use policy::rules::AddError;
 use policy_words::causes::Cause;
 use std::alloc::Global;
 
-// Where a policy is refused, by line and word from 1, and why. Word 0 is the line as a whole, and line 0 the text.
-#[derive(Clone, Copy, PartialEq, Debug)]
+// Where a policy is refused, by line and word from 1, and why. Word 0 is the line as a whole, and line 0 the text: so
+// they are printed.
+#[derive(Clone, Copy, PartialEq, Eq, Debug)]
 pub struct Fault {
     pub line: u64,
     pub word: u8,
@@ -23,7 +24,7 @@ pub struct Fault {
 }
 
 // Why no policy was read.
-#[derive(Clone, Copy, PartialEq, Debug)]
+#[derive(Clone, Copy, PartialEq, Eq, Debug)]
 pub enum PolicyFault {
     Memory,
     At(Fault),
@@ -37,62 +38,46 @@ impl From<Fault> for PolicyFault {
     }
 }
 
-// The most bytes of a text, and of a line without its end.
+// The most bytes of a text.
 pub const MOST_BYTES: usize = 65_536;
 
+// Without the line feed.
 pub const LONGEST_LINE: usize = 120;
 
 // What a line's reader answered, with the line's number added to its fault.
 fn on<T>(line: u64, read: Result<T, LineFault>) -> Result<T, Fault>
     ensures { result ≡ lined line read }
 {
-    match read {
-        Ok(value) => Ok(value),
-        Err(fault) => Err(Fault {
-            line,
-            word: fault.word,
-            cause: fault.cause,
-        }),
-    }
+    read.map_err(|fault| Fault {
+        line,
+        word: fault.word,
+        cause: fault.cause,
+    })
 }
 
-// How many bytes stand before the first line feed.
-fn line_len(text: &[u8]) -> usize
-    ensures { result ≡ line_len text.now }
+// A line without the line feed that ends it.
+fn cut(line: &[u8]) -> Result<&[u8], LineFault>
+    ensures { MatchResult result (λ p. (line.now ≡ p.now ++ 10 ∷ []) × (length p.now ≤ longest_line)) (λ e. (e ≡ broken) × ((p : List ℕ) → line.now ≡ p ++ 10 ∷ [] → longest_line < length p)) }
 {
-    for (i, b) in text.iter().enumerate() {
-        if *b == b'\n' {
-            return i;
-        }
+    let broken = LineFault {
+        word: 0,
+        cause: Cause::Form,
+    };
+    let Some(front) = line.strip_suffix(b"\n") else {
+        return Err(broken);
+    };
+    if front.len() > LONGEST_LINE {
+        return Err(broken);
     }
-    text.len()
+    Ok(front)
 }
 
-// The first line of `text`, and what follows the line feed that ends it.
-fn cut(text: &[u8]) -> Result<(&[u8], &[u8]), LineFault>
-    ensures { MatchResult result (λ p. first_line text.now ≡ Ok (p.0.now, p.1.now)) (λ e. first_line text.now ≡ Err e) }
+// What the line of that number says.
+fn next_line(line: &[u8], number: u64, policy: &Policy<AnyMeter>) -> Result<Line, Fault>
+    ensures { (after : List ℕ) → IsFirstLine line.now after → MatchResult result (λ x. step_of number (parents_of policy.now.tree) (length policy.now.rules.items) (line.now ++ after) ≡ Ok (x, after)) (λ e. step_of number (parents_of policy.now.tree) (length policy.now.rules.items) (line.now ++ after) ≡ Err e) }
 {
-    let n = line_len(text);
-    if n >= text.len() || n > LONGEST_LINE {
-        return Err(LineFault {
-            word: 0,
-            cause: Cause::Form,
-        });
-    }
-    Ok((&text[0..n], &text[n + 1..]))
-}
-
-// The line of that number at the front of `text`, and what follows it.
-fn next_line<'a>(
-    text: &'a [u8],
-    number: u64,
-    policy: &Policy<AnyMeter>,
-) -> Result<(Line, &'a [u8]), Fault>
-    ensures { MatchResult result (λ p. step_of number (parents_of policy.now.tree) (length policy.now.rules.items) text.now ≡ Ok (p.0, p.1.now)) (λ e. step_of number (parents_of policy.now.tree) (length policy.now.rules.items) text.now ≡ Err e) }
-{
-    let (front, rest) = on(number, cut(text))?;
-    let line = on(number, read_line(front, policy))?;
-    Ok((line, rest))
+    let front = on(number, cut(line))?;
+    on(number, read_line(front, policy))
 }
 
 // The unused meter of a profile that was read: its numbers are in range.
@@ -100,10 +85,7 @@ fn meter_of(profile: Profile) -> AnyMeter
     requires { ProfileOk profile }
     ensures { Sells profile result }
 {
-    match AnyMeter::new(profile) {
-        Ok(meter) => meter,
-        Err(_) => unreachable(),
-    }
+    AnyMeter::new(profile).unwrap()
 }
 
 // Adds what a line says. It passed every check as it was read, so that only memory can be wanting.
@@ -123,6 +105,7 @@ fn add_line(policy: &mut Policy<AnyMeter>, line: Line) -> Result<(), PolicyFault
             meter_of(rule.meter),
         ),
     };
+    // no `?`: there would have to be a fault for what cannot be refused here
     match added {
         Ok(()) => Ok(()),
         Err(AddError::NoMemory) => Err(PolicyFault::Memory),
@@ -142,13 +125,10 @@ fn read_lines(heap: Global, text: &[u8]) -> Result<Policy<AnyMeter>, PolicyFault
         }));
     }
     let mut policy = Policy::new(heap);
-    let mut number: u64 = 0;
-    let mut rest = text;
-    while !rest.is_empty() {
-        number += 1;
-        let (line, after) = next_line(rest, number, &policy)?;
+    // as u64: no `From` makes it of a usize
+    for (i, line) in text.split_inclusive(|b| *b == b'\n').enumerate() {
+        let line = next_line(line, i as u64 + 1, &policy)?;
         add_line(&mut policy, line)?;
-        rest = after;
     }
     Ok(policy)
 }

@@ -3,9 +3,10 @@
 
 #[cfg(test)]
 mod tests {
+    use meter::measures::Mode;
     use meter::metering::Meter;
     use packet::kinds::{Address, Class, Conversation, Key, Station};
-    use policy::rules::{Mode, Selector};
+    use policy::rules::Selector;
     use policy_text::reader::{PolicyFault, read_policy};
     use std::alloc::Global;
     use std::process::Abort;
@@ -25,28 +26,30 @@ mac any 0 lb 10000 0
 
     // The line, the word and the number of a refusal, where there is one.
     fn refused(heap: Global, text: &[u8]) -> Option<(u64, u8, u8)> {
-        match read_policy(heap, text) {
-            Err(PolicyFault::At(fault)) => Some((fault.line, fault.word, fault.cause.number())),
-            _ => None,
-        }
+        let Err(PolicyFault::At(fault)) = read_policy(heap, text) else {
+            return None;
+        };
+        Some((fault.line, fault.word, fault.cause.number()))
     }
 
     // How many nodes and rules a text has, where it is taken.
     fn counts(heap: Global, text: &[u8]) -> Option<(u8, usize)> {
-        match read_policy(heap, text) {
-            Ok(policy) => Some((policy.tree.count(), policy.rules.len())),
-            Err(_) => None,
-        }
+        read_policy(heap, text)
+            .ok()
+            .map(|policy| (policy.tree.count(), policy.rules.len()))
     }
 
-    fn refused_behind(heap: Global, text: &str, line: &str) -> Result<Option<(u64, u8, u8)>, Fail> {
+    // What `read` makes of the text with one line more.
+    fn behind<T, F: FnOnce(Global, &[u8]) -> T>(
+        heap: Global,
+        text: &str,
+        line: &str,
+        read: F,
+    ) -> Result<T, Fail>
+        requires { F.IsAlwaysCallable read }
+    {
         let whole = format!(in heap; "{text}{line}\n")?;
-        Ok(refused(heap, whole.as_bytes()))
-    }
-
-    fn counts_behind(heap: Global, text: &str, line: &str) -> Result<Option<(u8, usize)>, Fail> {
-        let whole = format!(in heap; "{text}{line}\n")?;
-        Ok(counts(heap, whole.as_bytes()))
+        Ok(read(heap, whole.as_bytes()))
     }
 
     // Each text is refused at its line and word, with its number.
@@ -61,7 +64,7 @@ mac any 0 lb 10000 0
     fn lines_refused(rt: &impl Abort, heap: Global, cases: &[(&str, u8, u8)]) -> Result<(), Fail> {
         for (line, word, number) in cases {
             let place = Some((2, *word, *number));
-            let got = refused_behind(heap, "node 1 0 tb 1000 1400\n", line)?;
+            let got = behind(heap, "node 1 0 tb 1000 1400\n", line, refused)?;
             assert_eq!(rt; got, place, "{}", *line);
         }
         Ok(())
@@ -70,7 +73,7 @@ mac any 0 lb 10000 0
     // Each line is taken, alone.
     fn lines_taken(rt: &impl Abort, heap: Global, lines: &[&str]) -> Result<(), Fail> {
         for line in lines {
-            assert!(rt; counts_behind(heap, "", line)?.is_some(), "{}", *line);
+            assert!(rt; behind(heap, "", line, counts)?.is_some(), "{}", *line);
         }
         Ok(())
     }
@@ -357,9 +360,9 @@ mac any 0 lb 10000 0
         for number in 1..33 {
             write!(text, "node {number} 0 tb 1 1\n")?;
         }
-        let rule = counts_behind(heap, text.as_str(), "mac any 32 tb 1 1")?;
+        let rule = behind(heap, text.as_str(), "mac any 32 tb 1 1", counts)?;
         assert_eq!(rt; rule, Some((32, 1)));
-        let node = refused_behind(heap, text.as_str(), "node x")?;
+        let node = behind(heap, text.as_str(), "node x", refused)?;
         assert_eq!(rt; node, Some((33, 1, 7)));
         Ok(())
     }
@@ -372,11 +375,11 @@ mac any 0 lb 10000 0
             text.push_str("mac any 0 tb 1 1\n")?;
             text.push_str("ip 0.0.0.0/0 0.0.0.0/0 any 0 1 blind tb 1 1\n")?;
         }
-        let node = counts_behind(heap, text.as_str(), "node 1 0 tb 1 1")?;
+        let node = behind(heap, text.as_str(), "node 1 0 tb 1 1", counts)?;
         assert_eq!(rt; node, Some((1, 64)));
-        let ip = refused_behind(heap, text.as_str(), "ip x")?;
+        let ip = behind(heap, text.as_str(), "ip x", refused)?;
         assert_eq!(rt; ip, Some((65, 1, 7)));
-        let mac = refused_behind(heap, text.as_str(), "mac")?;
+        let mac = behind(heap, text.as_str(), "mac", refused)?;
         assert_eq!(rt; mac, Some((65, 1, 7)));
         Ok(())
     }
@@ -389,11 +392,11 @@ mac any 0 lb 10000 0
             let number = parent + 1;
             write!(text, "node {number} {parent} tb 1 1\n")?;
         }
-        let beside = counts_behind(heap, text.as_str(), "node 8 6 tb 1 1")?;
+        let beside = behind(heap, text.as_str(), "node 8 6 tb 1 1", counts)?;
         assert_eq!(rt; beside, Some((8, 0)));
-        let rule = counts_behind(heap, text.as_str(), "mac any 7 tb 1 1")?;
+        let rule = behind(heap, text.as_str(), "mac any 7 tb 1 1", counts)?;
         assert_eq!(rt; rule, Some((7, 1)));
-        let below = refused_behind(heap, text.as_str(), "node 8 7 tb 0 0")?;
+        let below = behind(heap, text.as_str(), "node 8 7 tb 0 0", refused)?;
         assert_eq!(rt; below, Some((8, 3, 6)));
         Ok(())
     }

@@ -8,8 +8,8 @@ use Rattle.std.proofs.lemmas.Bool.Decides.{nat_tests}
 use Rattle.packet.specs.declared.kinds.Class.{Class}
 use Rattle.packet.specs.declared.kinds.Class.TheVariants.{One, Two, Three, Four}
 use Rattle.packet.specs.Kinds.{class_number, class_of}
-use Rattle.policy.specs.declared.rules.Mode.{Mode}
-use Rattle.policy.specs.declared.rules.Mode.TheVariants.{Blind, Aware}
+use Rattle.meter.specs.declared.measures.Mode.{Mode}
+use Rattle.meter.specs.declared.measures.Mode.TheVariants.{Blind, Aware}
 use Rattle.policy_words.specs.declared.causes.Cause.{Cause}
 use Rattle.policy_words.specs.declared.causes.Cause.TheVariants.{Form}
 use Rattle.policy_words.specs.Words.{then, choice, stop, lit, field}
@@ -82,7 +82,7 @@ number_class Four = refl
 
 as_class_back : (o : Option Class) (t : List ℕ) (p : Class × List ℕ) → as_class o t ≡ Ok p → (o ≡ Some p.0) × (t ≡ p.1)
 as_class_back (Some c) t p h = let s : (c, t) ≡ p = same_ok h in ((λ i. Some (s i).0), (λ i. (s i).1))
-as_class_back None t p h = let z : ◌≡◌ {A = ℕ} 0 1 = cc in absurd (omega arith)
+as_class_back None t p h = cc
 
 class_back : (t : List ℕ) (p : Class × List ℕ) → class_word_of t ≡ Ok p → Wrote class_text always t p
 unfolding class_word_of class_text

@@ -1,7 +1,10 @@
 -- The laws of a number's text: what is read is what `decimal` writes, and what it writes is read. Assumes nothing.
-use Rattle.std.proofs.Common.{◌≡◌, ℕ, suc, ◌^◌, ◌<◌, ◌≤◌, Bool, true, false, cond, ◌&&◌, eqb, ltb, List, [], ◌∷◌, ◌++◌, length, get_or, take, drop, Ok, Err, decimal, sym, refl, ap, ◌∙◌, subst, ⊎_elim, arith, rules}
+use Rattle.std.proofs.Common.{◌≡◌, ℕ, suc, ◌+◌, ◌^◌, ◌<◌, ◌≤◌, Bool, true, false, cond, not, ◌&&◌, eqb, ltb, List, [], ◌∷◌, ◌++◌, length, get_or, take, drop, Some, None, Ok, Err, unwrap_or, position, decimal, sym, refl, ap, ◌∙◌, subst, ⊎_elim, arith, rules}
 use Rattle.std.specs.Char.{is_ascii_digit}
+use Rattle.std.specs.List.{position_or_len}
 use Rattle.std.specs.Str.{all_ascii_digits}
+use Rattle.std.proofs.lemmas.List.Sums.{prefix_len-le-length}
+use Rattle.std.proofs.lemmas.List.Recursion.{is_position_or_len}
 use Rattle.std.proofs.lemmas.Str.Parse.{IsNumeralModel, numerals_by_fold, digits_value_short}
 use Rattle.std.proofs.lemmas.Fmt.{digits_decimal, digits_value-decimal, decimal-digits_value, length-decimal-le, decimal_nonempty, first_decimal, decimal_digit}
 use Rattle.std.proofs.lemmas.List.{take_at, drop_at, take-append-drop, length-take-le, get_or-take, get_or_append_left}
@@ -11,6 +14,27 @@ use Rattle.policy_words.specs.Numbers.{digit_run, read_on, number_by, number_of,
 
 pub own : IsNumeralModel (λ ds. all_ascii_digits ds ≡ true) (read_on 0)
 own = numerals_by_fold _ (search rules) read_on (search rules)
+
+-- the first place that passes, or the end
+pub place_or_end : (p : ℕ → Bool) (t : List ℕ) → unwrap_or (position p t) (length t) ≡ position_or_len p t
+place_or_end p t = go (ltb (position_or_len p t) (length t)) refl
+  where
+    go : (b : Bool) → ltb (position_or_len p t) (length t) ≡ b → unwrap_or (cond b (Some (position_or_len p t)) None) (length t) ≡ position_or_len p t
+    go true e = refl
+    go false e =
+        let h : position_or_len p t ≤ length t = prefix_len-le-length (λ b. not (p b)) t in
+        let k = ltb-false (position_or_len p t) (length t) e in
+        omega arith
+
+-- the run ends at the first byte that is no digit
+pub run_place : (t : List ℕ) → unwrap_or (position (λ b. not (is_ascii_digit b)) t) (length t) ≡ digit_run t
+run_place t =
+    place_or_end (λ b. not (is_ascii_digit b)) t
+    ∙ sym (is_position_or_len digit_run (λ b. not (is_ascii_digit b)) refl (λ c cs. turned (is_ascii_digit c) (digit_run cs)) t)
+  where
+    turned : (b : Bool) (k : ℕ) → cond b (suc k) 0 ≡ cond (not b) 0 (1 + k)
+    turned true k = omega arith
+    turned false k = refl
 
 pub run_fits : (t : List ℕ) → digit_run t ≤ length t
 run_fits [] = omega arith

@@ -24,8 +24,8 @@ char_low d h = grind (arith, nat_tests)
 -- a byte
 
 byte_back : (t : List ℕ) (p : ℕ × List ℕ) → hex_byte t ≡ Ok p → (t ≡ pairs_text (p.0 ∷ []) p.1) × (p.0 < 256)
-byte_back [] p h = let z : ◌≡◌ {A = ℕ} 0 1 = cc in absurd (omega arith)
-byte_back (c ∷ []) p h = let z : ◌≡◌ {A = ℕ} 0 1 = cc in absurd (omega arith)
+byte_back [] p h = cc
+byte_back (c ∷ []) p h = cc
 byte_back (c ∷ (d ∷ t)) p h =
     let a = then_ok (hex_digit c) _ p h in
     let la = digit_back c a.0 a.1 in

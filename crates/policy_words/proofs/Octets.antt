@@ -30,7 +30,7 @@ octet_forth v t u h =
     ∙ cond-false (ltb 255 v) _ _ (le-ltb 255 v h)
 
 marked_back : (b v : ℕ) (t : List ℕ) (p : ℕ × List ℕ) → marked b v t ≡ Ok p → (v ≡ p.0) × (t ≡ b ∷ p.1)
-marked_back b v [] p h = let z : ◌≡◌ {A = ℕ} 0 1 = cc in absurd (omega arith)
+marked_back b v [] p h = cc
 marked_back b v (c ∷ cs) p h =
     let q = cond_ok (eqb c b) (Ok (v, cs)) Form p h in
     let e = eqb-true c b q.0 in
@@ -112,7 +112,7 @@ octets_forth a t h =
 -- a prefix that there is has the address and the length that it was asked for
 some_prefix : (b : Bool) (x p : Prefix) → cond b (Some x) None ≡ Some p → (b ≡ true) × (x ≡ p)
 some_prefix true x p h = (refl, cc)
-some_prefix false x p h = let z : ◌≡◌ {A = ℕ} 0 1 = cc in absurd (omega arith)
+some_prefix false x p h = cc
 
 abbrev bitless : Address → ℕ → Bool
 bitless a bits = leb bits 32 && eqb (a.0 % 2 ^ (32 - bits)) 0
@@ -127,7 +127,7 @@ as_prefix_back (Some x) t p h =
     let q = cond_ok (stop t) (Ok (x, t)) Form p h in
     let s : (x, t) ≡ p = same_ok q.1 in
     ((λ i. Some (s i).0), (λ i. (s i).1), q.0)
-as_prefix_back None t p h = let z : ◌≡◌ {A = ℕ} 0 1 = cc in absurd (omega arith)
+as_prefix_back None t p h = cc
 
 prefix_back : (t : List ℕ) (p : Prefix × List ℕ) → prefix_word_of t ≡ Ok p → Wrote prefix_text PrefixOk t p
 unfolding prefix_word_of prefix_text

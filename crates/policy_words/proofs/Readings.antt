@@ -1,5 +1,5 @@
 -- The laws of the parts of a line, and of the number that is the next word. Assumes nothing.
-use Rattle.std.proofs.Common.{◌≡◌, ℕ, suc, ◌^◌, ◌<◌, Bool, true, false, cond, eqb, ◌⊎◌, List, [], ◌∷◌, ◌++◌, Ok, Err, Result, sym, refl, ap, ◌∙◌, subst, inl, inr, arith}
+use Rattle.std.proofs.Common.{◌≡◌, ℕ, suc, ◌^◌, ◌<◌, Bool, true, false, cond, eqb, ◌⊎◌, List, [], ◌∷◌, ◌++◌, Ok, Err, Result, sym, refl, ap, ◌∙◌, subst, inl, inr}
 use Rattle.std.specs.Char.{is_ascii_digit}
 use Rattle.std.proofs.lemmas.Bool.{cond-true, cond-false, eqb-true, eq-eqb}
 use Rattle.policy_words.specs.declared.numbers.NumberFault.{NumberFault}
@@ -13,15 +13,15 @@ use Rattle.policy_words.proofs.Digits.{number_back, number_forth}
 -- what a reading that went well read first
 pub then_ok : {A B E : Type 0} (r : Result A E) (f : A → Result B E) (b : B) → then r f ≡ Ok b → (a : A) × (r ≡ Ok a) × (f a ≡ Ok b)
 then_ok (Ok a) f b h = (a, refl, h)
-then_ok (Err e) f b h = let z : ◌≡◌ {A = ℕ} 0 1 = cc in absurd (omega arith)
+then_ok (Err e) f b h = cc
 
 pub cond_ok : {A E : Type 0} (t : Bool) (r : Result A E) (e : E) (a : A) → cond t r (Err e) ≡ Ok a → (t ≡ true) × (r ≡ Ok a)
 cond_ok true r e a h = (refl, h)
-cond_ok false r e a h = let z : ◌≡◌ {A = ℕ} 0 1 = cc in absurd (omega arith)
+cond_ok false r e a h = cc
 
 pub ok_cond : {A E : Type 0} (t : Bool) (r : Result A E) (e : E) (a : A) → cond t (Err e) r ≡ Ok a → (t ≡ false) × (r ≡ Ok a)
 ok_cond false r e a h = (refl, h)
-ok_cond true r e a h = let z : ◌≡◌ {A = ℕ} 0 1 = cc in absurd (omega arith)
+ok_cond true r e a h = cc
 
 pub same_ok : {A E : Type 0} {a b : A} → ◌≡◌ {A = Result A E} (Ok a) (Ok b) → a ≡ b
 same_ok h = cc
@@ -40,7 +40,7 @@ stop_undigited (c ∷ cs) h =
 
 pub lit_back : (ks t rest : List ℕ) → lit ks t ≡ Ok rest → (t ≡ ks ++ rest) × (stop rest ≡ true)
 lit_back [] t rest h = let q = cond_ok (stop t) (Ok t) Form rest h in let e : t ≡ rest = same_ok q.1 in (e, ap stop (sym e) ∙ q.0)
-lit_back (k ∷ ks) [] rest h = let z : ◌≡◌ {A = ℕ} 0 1 = cc in absurd (omega arith)
+lit_back (k ∷ ks) [] rest h = cc
 lit_back (k ∷ ks) (c ∷ cs) rest h =
     let q = cond_ok (eqb c k) (lit ks cs) Form rest h in
     let e = eqb-true c k q.0 in
@@ -64,7 +64,7 @@ lit_not (k ∷ ks) (c ∷ cs) h = go (eqb c k) refl (λ a. lit_not ks cs (λ res
     go false e f = refl
 
 pub gap_back : (t rest : List ℕ) → gap t ≡ Ok rest → t ≡ 32 ∷ rest
-gap_back [] rest h = let z : ◌≡◌ {A = ℕ} 0 1 = cc in absurd (omega arith)
+gap_back [] rest h = cc
 gap_back (c ∷ cs) rest h =
     let q = cond_ok (eqb c 32) (Ok cs) Form rest h in
     let e = eqb-true c 32 q.0 in
@@ -73,11 +73,11 @@ gap_back (c ∷ cs) rest h =
 
 pub formed_ok : {A : Type 0} (r : Result A NumberFault) (a : A) → formed r ≡ Ok a → r ≡ Ok a
 formed_ok (Ok x) a h = ap Ok (same_ok h)
-formed_ok (Err e) a h = let z : ◌≡◌ {A = ℕ} 0 1 = cc in absurd (omega arith)
+formed_ok (Err e) a h = cc
 
 pub finish_back : (t : List ℕ) (u : Unit {0}) → finish t ≡ Ok u → t ≡ []
 finish_back [] u h = refl
-finish_back (c ∷ cs) u h = let z : ◌≡◌ {A = ℕ} 0 1 = cc in absurd (omega arith)
+finish_back (c ∷ cs) u h = cc
 
 -- what a word's law says of what was read
 abbrev pub Wrote : {A : Type 0} → (A → List ℕ → List ℕ) → (A → Type 0) → List ℕ → A × List ℕ → Type 0
@@ -97,3 +97,8 @@ field_forth v rest small h = ap (λ r. then (formed r) whole) (number_forth v re
 
 pub number_word : Word field word_on (λ v. v < 10 ^ 13)
 number_word = record { back = λ t v rest h. field_back t (v, rest) h; forth = field_forth }
+
+-- readings in a row, however they are grouped
+pub then_then : {A B D E : Type 0} (r : Result A E) (f : A → Result B E) (g : B → Result D E) → then (then r f) g ≡ then r (λ a. then (f a) g)
+then_then (Ok a) f g = refl
+then_then (Err e) f g = refl

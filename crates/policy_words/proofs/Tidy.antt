@@ -12,8 +12,8 @@ use Rattle.packet.specs.declared.kinds.Class.{Class}
 use Rattle.packet.specs.declared.kinds.Class.TheVariants.{One, Two, Three, Four}
 use Rattle.packet.specs.declared.kinds.Station.{Station}
 use Rattle.packet.specs.Kinds.{class_number}
-use Rattle.policy.specs.declared.rules.Mode.{Mode}
-use Rattle.policy.specs.declared.rules.Mode.TheVariants.{Blind, Aware}
+use Rattle.meter.specs.declared.measures.Mode.{Mode}
+use Rattle.meter.specs.declared.measures.Mode.TheVariants.{Blind, Aware}
 use Rattle.policy.specs.declared.rules.Prefix.{Prefix}
 use Rattle.policy_words.specs.Texts.{word_on, part_text, prefix_text, PrefixOk, pairs_text, station_text, StationOk, protocol_text, ProtocolOk, class_text, mode_text}
 use Rattle.policy_words.proofs.Digits.{own}

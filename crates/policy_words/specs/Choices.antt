@@ -4,8 +4,8 @@
 use Rattle.std.specs.Prelude.{ℕ, cond, List, Some, None, Ok, Err, codes, Option, Result, nat_lt}
 use Rattle.packet.specs.declared.kinds.Class.{Class}
 use Rattle.packet.specs.Kinds.{class_of}
-use Rattle.policy.specs.declared.rules.Mode.{Mode}
-use Rattle.policy.specs.declared.rules.Mode.TheVariants.{Blind, Aware}
+use Rattle.meter.specs.declared.measures.Mode.{Mode}
+use Rattle.meter.specs.declared.measures.Mode.TheVariants.{Blind, Aware}
 use Rattle.policy_words.specs.declared.causes.Cause.{Cause}
 use Rattle.policy_words.specs.declared.causes.Cause.TheVariants.{Form}
 use Rattle.policy_words.specs.Words.{then, choice, lit, field}

@@ -8,8 +8,8 @@ use Rattle.std.specs.Char.{digit_char}
 use Rattle.packet.specs.declared.kinds.Class.{Class}
 use Rattle.packet.specs.declared.kinds.Station.{Station}
 use Rattle.packet.specs.Kinds.{class_number}
-use Rattle.policy.specs.declared.rules.Mode.{Mode}
-use Rattle.policy.specs.declared.rules.Mode.TheVariants.{Blind, Aware}
+use Rattle.meter.specs.declared.measures.Mode.{Mode}
+use Rattle.meter.specs.declared.measures.Mode.TheVariants.{Blind, Aware}
 use Rattle.policy.specs.declared.rules.Prefix.{Prefix}
 use Rattle.policy.specs.Rules.{prefix_of}
 

@@ -1,11 +1,11 @@
 // The words that are addresses: a prefix a.b.c.d/len, and the twelve digits of a station.
 ghost use Rattle.std.specs.Prelude.{◌≡◌, ◌+◌, ◌*◌, [], Ok, Err, MatchResult};
-ghost use Rattle.policy_words.specs.Words.{then};
+ghost use Rattle.policy_words.specs.Words.{then, Reads};
 ghost use Rattle.policy_words.specs.Addresses.{part_of, octet_of, octets_of, prefix_word_of, hex_digit, hex_byte, pairs_of, station_of};
 
 use crate::causes::Cause;
 use crate::numbers::number;
-use crate::words::{byte, keyword, next, stops};
+use crate::words::{any_or, byte, next, word_end};
 use packet::kinds::{Address, Station};
 use policy::rules::Prefix;
 
@@ -13,31 +13,30 @@ use policy::rules::Prefix;
 const STATION_BYTES: usize = 6;
 
 // A number up to 255.
+#[tactic(auto, unfolding(crate::specs::Addresses::octet_of))]
 fn octet(text: &[u8]) -> Result<(u8, &[u8]), Cause>
-    ensures { MatchResult result (λ p. octet_of text.now ≡ Ok (p.0, p.1.now)) (λ e. octet_of text.now ≡ Err e) }
+    ensures { Reads result (octet_of text.now) }
 {
     let (value, rest) = number(text)?;
     Ok((byte(value)?, rest))
 }
 
 // A number up to 255 before the byte `mark`.
+#[tactic(auto, unfolding(crate::specs::Addresses::part_of))]
 fn part(text: &[u8], mark: u8) -> Result<(u8, &[u8]), Cause>
-    ensures { MatchResult result (λ p. part_of mark text.now ≡ Ok (p.0, p.1.now)) (λ e. part_of mark text.now ≡ Err e) }
+    ensures { Reads result (part_of mark text.now) }
 {
     let (value, rest) = octet(text)?;
     match rest.split_first() {
-        None => Err(Cause::Form),
-        Some((b, after)) => if *b == mark {
-            Ok((value, after))
-        } else {
-            Err(Cause::Form)
-        },
+        Some((b, after)) if *b == mark => Ok((value, after)),
+        _ => Err(Cause::Form),
     }
 }
 
 // Four parts, of which the last stands before a slash.
+#[tactic(auto, unfolding(crate::specs::Addresses::octets_of))]
 fn octets(text: &[u8]) -> Result<(Address, &[u8]), Cause>
-    ensures { MatchResult result (λ p. octets_of text.now ≡ Ok (p.0, p.1.now)) (λ e. octets_of text.now ≡ Err e) }
+    ensures { Reads result (octets_of text.now) }
 {
     let (a, rest) = part(text, b'.')?;
     let (b, rest) = part(rest, b'.')?;
@@ -47,19 +46,15 @@ fn octets(text: &[u8]) -> Result<(Address, &[u8]), Cause>
 }
 
 // The prefix that is the next word. No bit is set beyond its first ones.
+#[tactic(auto, unfolding(crate::specs::Addresses::prefix_word_of))]
 pub fn prefix_word(text: &[u8]) -> Result<(Prefix, &[u8]), Cause>
-    ensures { MatchResult result (λ p. prefix_word_of text.now ≡ Ok (p.0, p.1.now)) (λ e. prefix_word_of text.now ≡ Err e) }
+    ensures { Reads result (prefix_word_of text.now) }
 {
     let (address, rest) = octets(next(text)?)?;
     let (length, rest) = octet(rest)?;
-    match Prefix::new(address, length) {
-        Some(prefix) => if stops(rest) {
-            Ok((prefix, rest))
-        } else {
-            Err(Cause::Form)
-        },
-        None => Err(Cause::Form),
-    }
+    let prefix = Prefix::new(address, length).ok_or(Cause::Form)?;
+    word_end(rest)?;
+    Ok((prefix, rest))
 }
 
 // What a hexadecimal digit stands for; only small letters will do.
@@ -84,7 +79,7 @@ fn hex_pair(high: u8, low: u8) -> Result<u8, Cause>
 
 // The byte at the front of `text`.
 fn hex_byte(text: &[u8]) -> Result<(u8, &[u8]), Cause>
-    ensures { MatchResult result (λ p. hex_byte text.now ≡ Ok (p.0, p.1.now)) (λ e. hex_byte text.now ≡ Err e) }
+    ensures { Reads result (hex_byte text.now) }
 {
     let [high, low, rest @ ..] = text else {
         return Err(Cause::Form);
@@ -98,25 +93,18 @@ fn pairs(text: &[u8]) -> Result<(Station, &[u8]), Cause>
 {
     let mut source = [0; STATION_BYTES];
     let mut rest = text;
-    for i in 0..STATION_BYTES {
+    for place in source.iter_mut() {
         let (b, after) = hex_byte(rest)?;
-        source[i] = b;
+        *place = b;
         rest = after;
     }
-    if stops(rest) {
-        Ok((Station { source }, rest))
-    } else {
-        Err(Cause::Form)
-    }
+    word_end(rest)?;
+    Ok((Station { source }, rest))
 }
 
 // The station that is the next word, or any.
 pub fn station_word(text: &[u8]) -> Result<(Option<Station>, &[u8]), Cause>
-    ensures { MatchResult result (λ p. station_of text.now ≡ Ok (p.0, p.1.now)) (λ e. station_of text.now ≡ Err e) }
+    ensures { Reads result (station_of text.now) }
 {
-    if let Ok(rest) = keyword(text, b" any") {
-        return Ok((None, rest));
-    }
-    let (station, rest) = pairs(next(text)?)?;
-    Ok((Some(station), rest))
+    any_or(text, |text| pairs(next(text)?))
 }

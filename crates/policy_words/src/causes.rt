@@ -7,7 +7,7 @@ use crate::numbers::NumberFault;
 use kinds::profiles::Fault;
 use policy::rules::Refusal;
 
-#[derive(Clone, Copy, PartialEq, Debug)]
+#[derive(Clone, Copy, PartialEq, Eq, Debug)]
 pub enum Cause {
     // it is not of its form, is missing, or is one too many
     Form,
@@ -18,6 +18,7 @@ pub enum Cause {
 }
 
 impl Cause {
+    // The number of each refusal is told here, and stands in one definition.
     pub fn number(self) -> u8
         ensures { result ≡ cause_number self }
     {

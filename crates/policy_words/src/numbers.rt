@@ -2,6 +2,7 @@
 ghost use Rattle.std.specs.Prelude.{◌≡◌, ◌^◌, ◌<◌, ◌≤◌, true, ◌++◌, length, take, drop, IfOk, Ok, Err, decimal, MatchResult};
 ghost use Rattle.std.specs.Str.{all_ascii_digits};
 ghost use Rattle.policy_words.specs.Numbers.{digit_run, read_on, number_by, number_of, Undigited};
+ghost use Rattle.policy_words.specs.Words.{Reads};
 
 /// Why a text does not begin with a number.
 #[derive(Clone, Copy, Debug, PartialEq, Eq)]
@@ -18,12 +19,9 @@ pub const MOST_DIGITS: usize = 13;
 fn run(text: &[u8]) -> usize
     ensures { result ≡ digit_run text.now }
 {
-    for (i, b) in text.iter().enumerate() {
-        if !b.is_ascii_digit() {
-            return i;
-        }
-    }
-    text.len()
+    text.iter()
+        .position(|b| !b.is_ascii_digit())
+        .unwrap_or(text.len())
 }
 
 // The number that `digits` write.
@@ -57,7 +55,7 @@ fn well_formed(text: &[u8], n: usize) -> Result<(), NumberFault>
 
 /// The number at the front of `text`, and what follows it.
 pub fn number(text: &[u8]) -> Result<(u64, &[u8]), NumberFault>
-    ensures value { MatchResult result (λ p. number_of text.now ≡ Ok (p.0, p.1.now)) (λ e. number_of text.now ≡ Err e) }
+    ensures value { Reads result (number_of text.now) }
     ensures canonical { IfOk result (λ p. (text.now ≡ decimal p.0 ++ p.1.now) × Undigited p.1.now × (p.0 < 10 ^ 13)) }
 {
     let n = run(text);

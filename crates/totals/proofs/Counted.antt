@@ -1,19 +1,25 @@
 -- The rows with one more entry. Assumes nothing.
-use Rattle.std.proofs.Common.{◌≡◌, ℕ, ◌+◌, ◌<◌, ◌≤◌, min, Bool, true, false, cond, ◌&&◌, eqb, ltb, ◌≢◌, List, [], ◌∷◌, ◌++◌, length, get_or, set, sym, refl, ap, ◌∙◌, ⊎_elim, arith, length-set, get_or-set_other, get_or-set_same}
-use Rattle.std.proofs.lemmas.Bool.{cases_eq, eq-eqb, ne_eqb, lt-ltb, cases_Bool}
+use Rattle.std.proofs.Common.{◌≡◌, ℕ, ◌+◌, ◌<◌, ◌≤◌, min, Bool, true, false, cond, ◌&&◌, eqb, ltb, ◌≢◌, List, [], ◌∷◌, ◌++◌, length, get_or, set, Some, None, Option, Bor, Ok, Err, sym, refl, ap, ◌∙◌, ⊎_elim, arith, length-set, get_or-set_other, get_or-set_same}
+use Rattle.std.proofs.Math.Bool.{and-false}
+use Rattle.std.proofs.lemmas.List.{length_push}
+use Rattle.std.proofs.lemmas.List.Elements.{All-push}
+use Rattle.std.proofs.lemmas.Bool.{cases_eq, cases_lt, eq-eqb, ne_eqb, lt-ltb, le-ltb, ltb-true, ltb-false, cases_Bool}
+use Rattle.std.proofs.lemmas.Option.{slice_get-get_or, slice_get_past, slice_get_read}
+use Rattle.std.specs.Option.{option_copied}
+use Rattle.std.specs.Slice.{IsItemAt}
+use Rattle.std.specs.List.{slice_get}
 use Rattle.meter.specs.declared.measures.Colour.{Colour}
 use Rattle.meter.specs.declared.measures.Colour.TheVariants.{Green, Yellow}
 use Rattle.policy.proofs.Ancestry.{Falls}
 use Rattle.history.specs.declared.answers.Refusal.{Refusal}
-use Rattle.history.specs.declared.answers.Answer.{Answer}
-use Rattle.history.specs.declared.answers.Answer.TheVariants.{Carried, Refused}
-use Rattle.history.specs.Answers.{is_green}
-use Rattle.history.specs.Histories.{Config, Offer, History, entry_of, nodes_of, among}
+use Rattle.history.specs.Answers.{Answer, is_green}
+use Rattle.history.specs.Histories.{Config, Offer, Entry, History, entry_of, nodes_of, among}
 use Rattle.history.proofs.Pathing.{among_above}
+use Rattle.totals.specs.declared.rows.Count.{Count}
 use Rattle.totals.specs.declared.rows.Total.{Total}
 use Rattle.totals.specs.declared.rows.Totals as table
-use Rattle.totals.specs.Totals.{row_count, most_offered, sums, on_row, is_yellow, green_packet, green_byte, yellow_packet, yellow_byte, named_by, denies, refusal, total_of, no_total, AllSmall, Counts, top, bumped, denied, bumped_in, denied_in, bumped_all, refused_in, noted, Falling, Noted}
-use Rattle.totals.proofs.Summing.{sums_snoc, length_snoc, small_snoc, sums_room, gp_light, gb_light, yp_light, yb_light, refusal_light}
+use Rattle.totals.specs.Totals.{row_count, most_offered, on_row, is_yellow, green_in, yellow_in, named_by, denies, refusal_in, total_of, no_total, AllSmall, Counts, top, bumped, denied, changed_in, bumped_in, denied_in, bumped_all, refused_in, noted, Falling, Noted}
+use Rattle.totals.proofs.Summing.{number_same, number_more, count_same, count_more}
 
 -- the numbers of a path, as the tree has them and as the table asks for them
 pub falling : (b : ℕ) (ks : List ℕ) → Falls b ks → Falling b ks
@@ -24,88 +30,59 @@ falls : (b : ℕ) (ks : List ℕ) → Falling b ks → Falls b ks
 falls b [] f = tt
 falls b (k ∷ ks) f = (f.0, f.1, falls k ks f.2)
 
-abbrev made : ℕ → ℕ → ℕ → ℕ → ℕ → Total
-made p q x y z = record { green_packets = p; green_bytes = q; yellow_packets = x; yellow_bytes = y; refused = z }
-
-same : (p p' q q' x x' y y' z z' : ℕ) → p ≡ p' → q ≡ q' → x ≡ x' → y ≡ y' → z ≡ z' → made p q x y z ≡ made p' q' x' y' z'
-same p p' q q' x x' y y' z z' a b c d e =
-    ap (λ v. made v q x y z) a ∙ ap (λ v. made p' v x y z) b ∙ ap (λ v. made p' q' v y z) c ∙ ap (λ v. made p' q' x' v z) d ∙ ap (made p' q' x' y') e
-
 -- one row of the totals of a history
 
-and_false : (b : Bool) → (b && false) ≡ false
-and_false true = refl
-and_false false = refl
+abbrev made : Count → Count → ℕ → Total
+made p q z = record { green = p; yellow = q; refused = z }
+
+total_is : (p p' q q' : Count) (z z' : ℕ) → p ≡ p' → q ≡ q' → z ≡ z' → made p q z ≡ made p' q' z'
+total_is p p' q q' z z' a b c = ap (λ v. made v q z) a ∙ ap (λ v. made p' v z) b ∙ ap (made p' q') c
 
 module _ (g : Config) (h : History) (all : AllSmall h) (few : length h < most_offered) (o : Offer) (le : o.size ≤ 65535) (k : ℕ) where
-  -- a row that rises by what it counts of the entry
-  rises : (a : Answer) (s : Total) (p q x y z : ℕ) → green_packet g k (entry_of o a) ≡ p → green_byte g k (entry_of o a) ≡ q → yellow_packet g k (entry_of o a) ≡ x → yellow_byte g k (entry_of o a) ≡ y → refusal k (entry_of o a) ≡ z →
-      s.green_packets ≡ sums (green_packet g k) h + p → s.green_bytes ≡ sums (green_byte g k) h + q → s.yellow_packets ≡ sums (yellow_packet g k) h + x → s.yellow_bytes ≡ sums (yellow_byte g k) h + y → s.refused ≡ sums (refusal k) h + z →
-      s ≡ total_of g (h ++ (entry_of o a ∷ [])) k
-  rises a s p q x y z ep eq ex ey ez fp fq fx fy fz =
-      let e = entry_of o a in
-      same _ _ _ _ _ _ _ _ _ _
-      (fp ∙ sym (sums_snoc (green_packet g k) h e ∙ ap (λ v. sums (green_packet g k) h + v) ep))
-      (fq ∙ sym (sums_snoc (green_byte g k) h e ∙ ap (λ v. sums (green_byte g k) h + v) eq))
-      (fx ∙ sym (sums_snoc (yellow_packet g k) h e ∙ ap (λ v. sums (yellow_packet g k) h + v) ex))
-      (fy ∙ sym (sums_snoc (yellow_byte g k) h e ∙ ap (λ v. sums (yellow_byte g k) h + v) ey))
-      (fz ∙ sym (sums_snoc (refusal k) h e ∙ ap (λ v. sums (refusal k) h + v) ez))
-
-  row_on : (c : Colour) → on_row g k (entry_of o (Carried c)) ≡ true → bumped (total_of g h k) c o.size ≡ total_of g (h ++ (entry_of o (Carried c) ∷ [])) k
+  row_on : (c : Colour) → on_row g k (entry_of o (Ok c)) ≡ true → bumped (total_of g h k) c o.size ≡ total_of g (h ++ (entry_of o (Ok c) ∷ [])) k
   row_on Green on =
-      let one = sums_room (green_packet g k) (gp_light g k) h all few in
-      let bytes = sums_room (green_byte g k) (gb_light g k) h all few in
-      rises (Carried Green) (bumped (total_of g h k) Green o.size) 1 o.size 0 0 0
-      (ap (λ v. cond (v && true) 1 0) on) (ap (λ v. cond (v && true) o.size 0) on) (ap (λ v. cond (v && false) 1 0) on) (ap (λ v. cond (v && false) o.size 0) on) refl
-      (omega arith) (omega arith) (omega arith) (omega arith) (omega arith)
+      let e = entry_of o (Ok Green) in
+      total_is _ _ _ _ _ _
+      (count_more (green_in g k) h e few (ap (λ v. v && true) on) all le) (count_same (yellow_in g k) h e (ap (λ v. v && false) on)) (number_same (refusal_in k) h e refl)
   row_on Yellow on =
-      let one = sums_room (yellow_packet g k) (yp_light g k) h all few in
-      let bytes = sums_room (yellow_byte g k) (yb_light g k) h all few in
-      rises (Carried Yellow) (bumped (total_of g h k) Yellow o.size) 0 0 1 o.size 0
-      (ap (λ v. cond (v && false) 1 0) on) (ap (λ v. cond (v && false) o.size 0) on) (ap (λ v. cond (v && true) 1 0) on) (ap (λ v. cond (v && true) o.size 0) on) refl
-      (omega arith) (omega arith) (omega arith) (omega arith) (omega arith)
+      let e = entry_of o (Ok Yellow) in
+      total_is _ _ _ _ _ _
+      (count_same (green_in g k) h e (ap (λ v. v && false) on)) (count_more (yellow_in g k) h e few (ap (λ v. v && true) on) all le) (number_same (refusal_in k) h e refl)
 
-  row_off : (c : Colour) → on_row g k (entry_of o (Carried c)) ≡ false → total_of g h k ≡ total_of g (h ++ (entry_of o (Carried c) ∷ [])) k
+  row_off : (c : Colour) → on_row g k (entry_of o (Ok c)) ≡ false → total_of g h k ≡ total_of g (h ++ (entry_of o (Ok c) ∷ [])) k
   row_off c off =
-      rises (Carried c) (total_of g h k) 0 0 0 0 0
-      (ap (λ v. cond (v && is_green c) 1 0) off) (ap (λ v. cond (v && is_green c) o.size 0) off) (ap (λ v. cond (v && is_yellow (Carried c)) 1 0) off) (ap (λ v. cond (v && is_yellow (Carried c)) o.size 0) off) refl
-      (omega arith) (omega arith) (omega arith) (omega arith) (omega arith)
+      let e = entry_of o (Ok c) in
+      total_is _ _ _ _ _ _
+      (count_same (green_in g k) h e (ap (λ v. v && is_green c) off)) (count_same (yellow_in g k) h e (ap (λ v. v && is_yellow (Ok c)) off)) (number_same (refusal_in k) h e refl)
 
-  module _ (e : Refusal) where
-    none : on_row g k (entry_of o (Refused e)) && false ≡ false
-    none = and_false (on_row g k (entry_of o (Refused e)))
-
-    row_denied : denies k (Refused e) ≡ true → denied (total_of g h k) ≡ total_of g (h ++ (entry_of o (Refused e) ∷ [])) k
+  module _ (r : Refusal) where
+    row_denied : denies k (Err r) ≡ true → denied (total_of g h k) ≡ total_of g (h ++ (entry_of o (Err r) ∷ [])) k
     row_denied d =
-        let one = sums_room (refusal k) (refusal_light k) h all few in
-        rises (Refused e) (denied (total_of g h k)) 0 0 0 0 1
-        (ap (λ v. cond v 1 0) none) (ap (λ v. cond v o.size 0) none) (ap (λ v. cond v 1 0) none) (ap (λ v. cond v o.size 0) none) (ap (λ v. cond v 1 0) d)
-        (omega arith) (omega arith) (omega arith) (omega arith) (omega arith)
+        let e = entry_of o (Err r) in
+        let none = and-false (on_row g k e) in
+        total_is _ _ _ _ _ _ (count_same (green_in g k) h e none) (count_same (yellow_in g k) h e none) (number_more (refusal_in k) h e few d)
 
-    row_passed : denies k (Refused e) ≡ false → total_of g h k ≡ total_of g (h ++ (entry_of o (Refused e) ∷ [])) k
+    row_passed : denies k (Err r) ≡ false → total_of g h k ≡ total_of g (h ++ (entry_of o (Err r) ∷ [])) k
     row_passed d =
-        rises (Refused e) (total_of g h k) 0 0 0 0 0
-        (ap (λ v. cond v 1 0) none) (ap (λ v. cond v o.size 0) none) (ap (λ v. cond v 1 0) none) (ap (λ v. cond v o.size 0) none) (ap (λ v. cond v 1 0) d)
-        (omega arith) (omega arith) (omega arith) (omega arith) (omega arith)
+        let e = entry_of o (Err r) in
+        let none = and-false (on_row g k e) in
+        total_is _ _ _ _ _ _ (count_same (green_in g k) h e none) (count_same (yellow_in g k) h e none) (number_same (refusal_in k) h e d)
 
 -- one row of a table changed
 
 module _ (f : Total → Total) (rs : List Total) (k : ℕ) where
-  abbrev changed : List Total
-  changed = cond (ltb k row_count) (set rs k (f (get_or rs k no_total))) rs
+  abbrev either : Bool → List Total
+  either b = cond b (set rs k (f (get_or rs k no_total))) rs
 
-  length_changed : length changed ≡ length rs
-  length_changed = elim (ltb k row_count) as (λ b. length (cond b (set rs k (f (get_or rs k no_total))) rs) ≡ length rs) [ true ↦ simp length-set | false ↦ refl ]
+  length_changed : length (changed_in f rs k) ≡ length rs
+  length_changed = elim (ltb k row_count) as (λ b. length (either b) ≡ length rs) [ true ↦ simp length-set | false ↦ refl ]
 
-  changed_same : length rs ≡ row_count → k < row_count → get_or changed k no_total ≡ f (get_or rs k no_total)
+  changed_same : length rs ≡ row_count → k < row_count → get_or (changed_in f rs k) k no_total ≡ f (get_or rs k no_total)
   changed_same long lt =
-      ap (λ b. get_or (cond b (set rs k (f (get_or rs k no_total))) rs) k no_total) (lt-ltb k row_count lt)
-      ∙ get_or-set_same rs k (f (get_or rs k no_total)) no_total (omega arith)
+      ap (λ b. get_or (either b) k no_total) (lt-ltb k row_count lt) ∙ get_or-set_same rs k (f (get_or rs k no_total)) no_total (omega arith)
 
-  changed_other : (j : ℕ) → j ≢ k → get_or changed j no_total ≡ get_or rs j no_total
-  changed_other j ne =
-      elim (ltb k row_count) as (λ b. get_or (cond b (set rs k (f (get_or rs k no_total))) rs) j no_total ≡ get_or rs j no_total)
-      [ true ↦ rw get_or-set_other | false ↦ refl ]
+  changed_other : (j : ℕ) → j ≢ k → get_or (changed_in f rs k) j no_total ≡ get_or rs j no_total
+  changed_other j ne = elim (ltb k row_count) as (λ b. get_or (either b) j no_total ≡ get_or rs j no_total) [ true ↦ rw get_or-set_other | false ↦ refl ]
 
 -- the rows of a path, and no others, are bumped
 
@@ -195,25 +172,39 @@ module _ (rs : List Total) (long : length rs ≡ row_count) (m : ℕ) (lt : m < 
 
 -- the whole table
 
+-- what `get` and `copied` read
+pub copied_at : (rs : List Total) (k : ℕ) (r : Option (Bor Total)) → IsItemAt rs k r → option_copied r ≡ slice_get rs k
+copied_at rs k None is = sym (slice_get_past rs k (ltb-false k (length rs) (sym is.0)))
+copied_at rs k (Some x) is = sym (slice_get_read rs (length rs) k x.now refl (ltb-true k (length rs) (sym is.0)) is.1)
+
+pub row_is : (g : Config) (h : History) (t : table.Totals) (k : ℕ) → Counts g h t → slice_get t.rows k ≡ cond (ltb k row_count) (Some (total_of g h k)) None
+row_is g h t k is =
+    let long = is.long in
+    ⊎_elim
+    (λ (lt : k < row_count).
+    slice_get-get_or t.rows k no_total (omega arith) ∙ ap Some (is.rows k lt) ∙ sym (ap (λ b. cond b (Some (total_of g h k)) None) (lt-ltb k row_count lt)))
+    (λ (le : row_count ≤ k). slice_get_past t.rows k (omega arith) ∙ sym (ap (λ b. cond b (Some (total_of g h k)) None) (le-ltb k row_count le)))
+    (cases_lt k row_count)
+
 module _ (g : Config) (h : History) (o : Offer) (t u : table.Totals) (is : Counts g h t) (few : length h < most_offered) (le : o.size ≤ 65535) (one : u.offered ≡ min (t.offered + 1) top) where
   counts : (a : Answer) → length u.rows ≡ row_count → ((k : ℕ) → k < row_count → get_or u.rows k no_total ≡ total_of g (h ++ (entry_of o a ∷ [])) k) → Counts g (h ++ (entry_of o a ∷ [])) u
   counts a long rows =
-      let more = length_snoc h (entry_of o a) in
+      let more = length_push h (entry_of o a) in
       let was = is.offered in
       record {
-        small = small_snoc h (entry_of o a) is.small le;
+        small = All-push (λ (e : Entry). e.offer.size ≤ 65535) h (entry_of o a) is.small le;
         few = omega arith;
         offered = omega arith;
         long = long;
         rows = rows;
       }
 
-  carried : (c : Colour) (n : ℕ) → o.size ≡ n → Falling row_count (nodes_of g o) → u.rows ≡ bumped_all t.rows (0 ∷ nodes_of g o) c n → Counts g (h ++ (entry_of o (Carried c) ∷ [])) u
+  carried : (c : Colour) (n : ℕ) → o.size ≡ n → Falling row_count (nodes_of g o) → u.rows ≡ bumped_all t.rows (0 ∷ nodes_of g o) c n → Counts g (h ++ (entry_of o (Ok c) ∷ [])) u
   carried c n size falling rows =
       let ks = nodes_of g o in
-      let e = entry_of o (Carried c) in
+      let e = entry_of o (Ok c) in
       let rows' : u.rows ≡ bumped_all t.rows (0 ∷ ks) c o.size = rows ∙ ap (bumped_all t.rows (0 ∷ ks) c) (sym size) in
-      counts (Carried c) (ap length rows ∙ length_bumped c n t.rows (0 ∷ ks) ∙ is.long)
+      counts (Ok c) (ap length rows ∙ length_bumped c n t.rows (0 ∷ ks) ∙ is.long)
       (λ k lt.
       let at = ap (λ l. get_or l k no_total) rows' ∙ carried_at_lem c o.size t.rows ks k (falls row_count ks falling) is.long ∙ ap (λ v. cond (on_row g k e) (bumped v c o.size) v) (is.rows k lt) in
       ⊎_elim
@@ -221,11 +212,11 @@ module _ (g : Config) (h : History) (o : Offer) (t u : table.Totals) (is : Count
       (λ (off : on_row g k e ≡ false). at ∙ ap (λ b. cond b (bumped (total_of g h k) c o.size) (total_of g h k)) off ∙ row_off g h is.small few o le k c off)
       (cases_Bool (on_row g k e)))
 
-  refused : (e : Refusal) → named_by e < row_count → u.rows ≡ refused_in t.rows (named_by e) → Counts g (h ++ (entry_of o (Refused e) ∷ [])) u
+  refused : (e : Refusal) → named_by e < row_count → u.rows ≡ refused_in t.rows (named_by e) → Counts g (h ++ (entry_of o (Err e) ∷ [])) u
   refused e lt rows =
       let m = named_by e in
       let denies-by : ℕ → Bool → Bool = λ k b. cond b true (eqb k m) in
-      counts (Refused e) (ap length rows ∙ length_refused t.rows is.long m lt)
+      counts (Err e) (ap length rows ∙ length_refused t.rows is.long m lt)
       (λ k inside.
       let at = ap (λ l. get_or l k no_total) rows in
       let row = is.rows k inside in
@@ -240,6 +231,6 @@ module _ (g : Config) (h : History) (o : Offer) (t u : table.Totals) (is : Count
       (cases_eq k 0))
 
 pub counts_more : (path : List ℕ) (n : ℕ) (a : Answer) (t u : table.Totals) → u.offered ≡ min (t.offered + 1) top → u.rows ≡ noted t.rows path n a → Noted path n a t u
-counts_more path n (Carried c) t u one rows g h o is few size le placed =
+counts_more path n (Ok c) t u one rows g h o is few size le placed =
     carried g h o t u is few le one c n size placed.1 (rows ∙ ap (λ ks. bumped_all t.rows ks c n) placed.0)
-counts_more path n (Refused e) t u one rows g h o is few size le placed = refused g h o t u is few le one e placed rows
+counts_more path n (Err e) t u one rows g h o is few size le placed = refused g h o t u is few le one e placed rows

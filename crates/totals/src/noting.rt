@@ -1,28 +1,32 @@
 // Notes what was answered.
 ghost use Rattle.std.specs.Prelude.{◌≡◌, [], if◌then◌else◌, Some, None, nat_lt};
 ghost use Rattle.history.specs.Histories.{Config, History};
-ghost use Rattle.totals.specs.Totals.{named_by, total_of, bumped, denied, bumped_in, denied_in, bumped_all, refused_in, Counts, Noted};
+ghost use Rattle.totals.specs.Totals.{named_by, total_of, one_more, bumped, denied, changed_in, bumped_all, refused_in, Counts, Noted};
+ghost use Rattle.totals.specs.declared.rows.Total.{Total};
 
-use crate::rows::{ROWS, Total, Totals};
+use crate::rows::{Count, ROWS, Total, Totals};
 use history::answers::{Answer, Refusal};
 use meter::measures::{Colour, Size};
 
-const NOTHING: Total = Total {
-    green_packets: 0,
-    green_bytes: 0,
-    yellow_packets: 0,
-    yellow_bytes: 0,
-    refused: 0,
-};
-
-// The node that a refusal names, 0 for none.
+// The node that a refusal names, 0 for none: the same 0 that a place has at a flow's meter, which no row is for.
 fn named(refusal: Refusal) -> u8
     ensures { result ≡ named_by refusal }
 {
     match refusal {
-        Refusal::OverDepth(place) => place.node,
-        Refusal::OverExcess(place) => place.node,
+        Refusal::OverDepth(place) | Refusal::OverExcess(place) => place.node,
         _ => 0,
+    }
+}
+
+impl Count {
+    // With a packet more.
+    fn with(self, size: Size) -> Count
+        ensures { result ≡ one_more self size.0 }
+    {
+        Count {
+            packets: self.packets.saturating_add(1),
+            bytes: self.bytes.saturating_add(u64::from(size.0)),
+        }
     }
 }
 
@@ -33,18 +37,12 @@ impl Total {
     {
         match colour {
             Colour::Green => Total {
-                green_packets: self.green_packets.saturating_add(1),
-                green_bytes: self.green_bytes.saturating_add(size.0 as u64),
-                yellow_packets: self.yellow_packets,
-                yellow_bytes: self.yellow_bytes,
-                refused: self.refused,
+                green: self.green.with(size),
+                ..self
             },
             Colour::Yellow => Total {
-                green_packets: self.green_packets,
-                green_bytes: self.green_bytes,
-                yellow_packets: self.yellow_packets.saturating_add(1),
-                yellow_bytes: self.yellow_bytes.saturating_add(size.0 as u64),
-                refused: self.refused,
+                yellow: self.yellow.with(size),
+                ..self
             },
         }
     }
@@ -54,11 +52,8 @@ impl Total {
         ensures { result ≡ denied self }
     {
         Total {
-            green_packets: self.green_packets,
-            green_bytes: self.green_bytes,
-            yellow_packets: self.yellow_packets,
-            yellow_bytes: self.yellow_bytes,
             refused: self.refused.saturating_add(1),
+            ..self
         }
     }
 }
@@ -69,7 +64,7 @@ impl Totals {
     {
         Totals {
             offered: 0,
-            rows: [NOTHING; ROWS],
+            rows: [Total::default(); ROWS],
         }
     }
 
@@ -77,48 +72,37 @@ impl Totals {
     pub fn row(&self, node: u8) -> Option<Total>
         ensures { (g : Config) (h : History) → Counts g h self.now → result ≡ (if nat_lt node 33 then Some (total_of g h node) else None) }
     {
-        let at = node as usize;
-        if at < ROWS { Some(self.rows[at]) } else { None }
+        self.rows.get(usize::from(node)).copied()
     }
 
-    fn bump_row(&mut self, node: u8, size: Size, colour: Colour)
-        ensures offered { self.new.offered ≡ self.old.offered }
-        ensures rows { self.new.rows ≡ bumped_in self.old.rows node colour size.0 }
+    // Changes the row of that number, if there is one.
+    fn change<F: FnOnce(Total) -> Total>(&mut self, node: u8, change: F)
+        requires { F.IsAlwaysCallable change }
+        ensures { (f : Total → Total) → ((r s : Total) → F.post change r s → s ≡ f r) → self.new ≡ record self.old { rows = changed_in f self.old.rows node } }
     {
-        let at = node as usize;
+        let at = usize::from(node);
+        // No `get_mut`: it says nothing of what the rows end as.
         if at < ROWS {
-            self.rows[at] = self.rows[at].bump(colour, size);
-        }
-    }
-
-    fn deny_row(&mut self, node: u8)
-        ensures offered { self.new.offered ≡ self.old.offered }
-        ensures rows { self.new.rows ≡ denied_in self.old.rows node }
-    {
-        let at = node as usize;
-        if at < ROWS {
-            self.rows[at] = self.rows[at].deny();
+            self.rows[at] = change(self.rows[at]);
         }
     }
 
     // Every row of the path counts the packet.
     fn carry(&mut self, path: &[u8], size: Size, colour: Colour)
-        ensures offered { self.new.offered ≡ self.old.offered }
-        ensures rows { self.new.rows ≡ bumped_all self.old.rows path.now colour size.0 }
+        ensures { self.new ≡ record self.old { rows = bumped_all self.old.rows path.now colour size.0 } }
     {
         for node in path {
-            self.bump_row(*node, size, colour);
+            self.change(*node, |row| row.bump(colour, size));
         }
     }
 
     // The line counts the refusal, and the node that it names.
     fn refuse(&mut self, node: u8)
-        ensures offered { self.new.offered ≡ self.old.offered }
-        ensures rows { self.new.rows ≡ refused_in self.old.rows node }
+        ensures { self.new ≡ record self.old { rows = refused_in self.old.rows node } }
     {
-        self.deny_row(0);
+        self.change(0, Total::deny);
         if node != 0 {
-            self.deny_row(node);
+            self.change(node, Total::deny);
         }
     }
 
@@ -128,8 +112,8 @@ impl Totals {
     {
         self.offered = self.offered.saturating_add(1);
         match answer {
-            Answer::Carried(colour) => self.carry(path, size, colour),
-            Answer::Refused(refusal) => self.refuse(named(refusal)),
+            Ok(colour) => self.carry(path, size, colour),
+            Err(refusal) => self.refuse(named(refusal)),
         }
     }
 }

@@ -1,26 +1,25 @@
-use Rattle.std.proofs.Common.{◌<◌, ◌∷◌, length, take, drop, sym, ap, ◌∙◌, arith, true-eqb, false-eqb}
-use Rattle.colour.specs.Words.{word_length, words}
-use Rattle.colour.proofs.Splits.{words_first, words_none, blanks_within, word_within}
+use Rattle.std.proofs.Common.{◌≡◌, rules, length, position, unwrap_or, not, None, Some}
+use Rattle.std.proofs.lemmas.Iterator.{YieldsList-from_slice}
+use Rattle.std.proofs.lemmas.Iterator.Search.{position_from_yields_List}
+use borrow.Author.Tests.{tests}
+use Rattle.colour.specs.Words.{blank}
+use Rattle.colour.proofs.Splits.{tail, words_end, words_split}
 use Rattle.colour.proofs.words.next_word.Goals as goal
 
-pub split_at-requires : goal.split_at-requires
-split_at-requires c = omega (arith, c.blank_run.ensures, blanks_within c.args.text.now)
-
-pub split_at-requires-2 : goal.split_at-requires-2
-split_at-requires-2 c = omega (arith, c.word_run.ensures, word_within c.split_at.result.1.now)
-
-pub returns-then-is_empty : goal.returns-then-is_empty
-returns-then-is_empty c =
-    words_none c.args.text.now c.split_at.result.1.now
-    (c.split_at.ensures.back ∙ ap (λ n. drop n c.args.text.now) c.blank_run.ensures)
-    (true-eqb _ _ c.if-is_empty.ensures)
+pub returns-in_err-start : goal.returns-in_err-start
+returns-in_err-start c =
+    let first = position_from_yields_List (λ b. not (blank b)) _ _ c.position.result c.position.ensures.ran (YieldsList-from_slice c.args.text.now cc) (λ x b q k. search (rules, tests)) in
+    let none : position (λ b. not (blank b)) c.args.text.now ≡ None = cc in
+    let no_words = words_end c.args.text.now none in
+    search rules
 
 pub returns : goal.returns
 returns c =
-    let rest = c.split_at.result.1.now in
-    let some : 0 < length rest = omega (arith, false-eqb (length rest) 0 c.if-is_empty.ensures) in
-    words_first c.args.text.now rest
-    (c.split_at.ensures.back ∙ ap (λ n. drop n c.args.text.now) c.blank_run.ensures)
-    some
-    ∙ sym (ap (λ l. l ∷ words (drop (word_length rest) rest)) (c.split_at-2.ensures.front ∙ ap (λ n. take n rest) c.word_run.ensures))
-    ∙ sym (ap (λ l. c.split_at-2.result.0.now ∷ words l) (c.split_at-2.ensures.back ∙ ap (λ n. drop n rest) c.word_run.ensures))
+    let t = c.args.text.now in
+    let start = c.in_ok-start.start in
+    let first = position_from_yields_List (λ b. not (blank b)) _ _ c.position.result c.position.ensures.ran (YieldsList-from_slice t cc) (λ x b q k. search (rules, tests)) in
+    let next = position_from_yields_List blank _ _ c.position-end.result c.position-end.ensures.ran (YieldsList-from_slice (tail t start) cc) (λ x b q k. search (rules, tests)) in
+    let some : position (λ b. not (blank b)) t ≡ Some start = cc in
+    let ends : c.unwrap_or.result ≡ unwrap_or (position blank (tail t start)) (length (tail t start)) = cc in
+    let split = words_split t start c.unwrap_or.result some ends in
+    cc

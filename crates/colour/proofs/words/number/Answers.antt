@@ -1,12 +1,9 @@
-use Rattle.std.proofs.Common.{◌≡◌, ℕ, true, false, cond, get_or, sym, ap, ◌∙◌, arith}
+use Rattle.std.proofs.Common.{get_or, sym, ap, ◌∙◌, arith}
 use Rattle.std.proofs.lemmas.Str.Parse.{parse_plain}
 use Rattle.std.proofs.lemmas.Str.Pattern.{starts_char}
 use Rattle.colour.specs.Words.{numeral}
 use Rattle.colour.proofs.Numerals.{own, numeral_no_text, numeral_no_plus, numeral_converted}
 use Rattle.colour.proofs.words.number.Goals as goal
-
-apart : true ≡ false → ⊥
-apart e = let z : ◌≡◌ {A = ℕ} 0 1 = ap (λ b. cond b 0 1) e in omega arith
 
 pub returns-in_default : goal.returns-in_default
 returns-in_default c = sym (numeral_no_text c.args.word.now c.in_default.ensures.cases.0)
@@ -22,5 +19,5 @@ returns c =
     let text = c.in-Ok.text.now in
     let plus = starts_char 43 text c.starts_with.result c.starts_with.ensures.cases (omega arith) (omega arith) in
     c.ok.ensures.value
-    ∙ numeral_converted text c.parse.result (parse_plain own 64 text c.parse.result c.parse.ensures.value.0 (λ e. apart (sym (plus.1 e) ∙ c.if-starts_with.false)))
+    ∙ numeral_converted text c.parse.result (parse_plain own 64 text c.parse.result c.parse.ensures.value.0 (λ e. let is = plus.1 e in cc))
     ∙ ap numeral c.in-Ok.ensures.cases.0

@@ -1,5 +1,4 @@
-use Rattle.std.proofs.Common.{◌≡◌, is_ok, vec_items, ap, ◌∙◌}
-use Rattle.std.proofs.lemmas.Result.{err_from_is_err_and}
+use Rattle.std.proofs.Common.{◌≡◌, vec_items, ap, ◌∙◌}
 use Rattle.meter.specs.Rules.{unused}
 use Rattle.meter.specs.Alone.{answers}
 use Rattle.documents.specs.Fresh.{seen}
@@ -8,19 +7,13 @@ use Rattle.kinds.specs.Making.{bought}
 use Rattle.documents.proofs.Documented.{documented_runs, made_terms}
 use Rattle.documents.proofs.colouring.colour_fresh.Goals as goal
 
-pub returns-in_err-colours : goal.returns-in_err-colours
-returns-in_err-colours c =
-    let p = err_from_is_err_and c.from_residual-in_err-colours.result c.from_residual-in_err-colours.ensures.1 in
-    let (w, is, fresh) = made_terms (bought c.args.profile) (any_meaning c.in_ok-meter.meter) c.in_ok-meter.ensures.value in
-    rw (p.1, p.2) (ap is_ok is)
-
 pub returns : goal.returns
 returns c =
     let a = c.args in
     let (w, is, fresh) = made_terms (bought a.profile) (any_meaning c.in_ok-meter.meter) c.in_ok-meter.ensures.value in
-    let ran = c.in_ok-colours.ensures.cases in
+    let ran = c.in_ok-colour_all.ensures.cases in
     let arrivals = a.arrivals.now in
-    let same : vec_items c.in_ok-colours.colours ≡ answers (unused w) (seen a.mode arrivals) =
+    let same : vec_items c.in_ok-colour_all.field-0 ≡ answers (unused w) (seen a.mode arrivals) =
     ran.answers
     ∙ ap (λ m. answers m c.deref.result.now) fresh
     ∙ ap (answers (unused w)) (c.deref.ensures.value ∙ c.in_ok-packets.ensures) in

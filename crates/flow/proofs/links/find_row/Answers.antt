@@ -1,38 +1,32 @@
-use Rattle.std.proofs.Common.{◌≡◌, ℕ, ◌<◌, get_or, ap, ◌∙◌, inl, inr, arith}
-use borrow.Rule.Slice.AtParam.{twice}
+-- Each turn has one row less to meet.
+use Rattle.std.proofs.Common.{◌≡◌, ◌<◌, sym, inl, inr, arith}
 use Rattle.flow.specs.Keys.{chain_of}
-use Rattle.flow.proofs.Chains.{left_start, left_more, left_used, left_none, at_same}
+use Rattle.flow.specs.Rows.{At}
+use Rattle.flow.proofs.Chains.{left_start, left_more, left_used, left_none}
 use Rattle.flow.proofs.links.find_row.Goals as goal
 
-pub loop-turn-init : goal.loop-turn-init
-loop-turn-init g c = λ used s.
+pub loop-init : goal.loop-init
+loop-init g c = λ used s.
     let h : chain_of (g.K.Key.bytes c.args.key.now) < 64 = omega arith in
-    rw c.chain.ensures (left_start s c.args.key.now h)
+    rw (c.from-at.ensures, c.chain.ensures) (left_start s c.args.key.now h)
 
-pub returns-then-at-rows : goal.returns-then-at-rows
-returns-then-at-rows g c = λ used s. left_none s c.args.key.now c.loop-turn.at c.loop-turn.turn (c.loop-turn.invariant used s) (inl c.if-at-rows.true)
+pub returns-in_err-row : goal.returns-in_err-row
+returns-in_err-row g c = λ used s.
+    rw c.from_residual.ensures (left_none s c.args.key.now c.loop.at c.loop.counter (c.loop.invariant used s) (inl c.in_err-row.ensures.lookup.3))
 
-pub returns-then-same : goal.returns-then-same
-returns-then-same g c = λ used s.
-    let rows = c.args.rows.now in
-    let at = c.loop-turn.at in
-    let r = get_or rows at c.index-rows-at.result in
-    let e = twice rows at c.index-rows-at.result in
-    (left_used s c.args.key.now at c.loop-turn.turn (c.loop-turn.invariant used s) r (c.if-at-rows.false, e), (r, (c.if-at-rows.false, e), c.same.ensures.0 c.if-same.true))
+pub returns-then-eq : goal.returns-then-eq
+returns-then-eq g c = λ used s.
+    let row = c.in_ok-row.row.now in
+    let at : At c.args.rows.now c.loop.at row = (c.in_ok-row.ensures.lookup.3.0, c.in_ok-row.ensures.lookup.1) in
+    let key = (g.met.K.Key.compared row.key c.args.key.now).0 (sym {b = g.K.PartialEq.eq row.key c.args.key.now} c.if-eq.ensures) in
+    (left_used s c.args.key.now c.loop.at c.loop.counter (c.loop.invariant used s) row at, (row, at, key))
 
-pub loop-turn-preserved : goal.loop-turn-preserved
-loop-turn-preserved g c = λ used s.
-    let rows = c.args.rows.now in
-    let at = c.loop-turn.at in
-    let q = get_or rows at c.index-rows-at.result in
-    let r = get_or rows at c.index-rows-at-in-loop-turn.result in
-    let d = twice rows at c.index-rows-at.result in
-    let e = twice rows at c.index-rows-at-in-loop-turn.result in
-    left_more s c.args.key.now at c.loop-turn.turn (c.loop-turn.invariant used s) r (c.if-at-rows.false, e)
-    (λ k.
-    let t = c.same.ensures.1 (ap (λ x. x.key) (at_same rows at q r (c.if-at-rows.false, d) (c.if-at-rows.false, e)) ∙ k) in
-    let z : ◌≡◌ {A = ℕ} 0 1 = cc in
-    omega arith)
+pub loop-preserved : goal.loop-preserved
+loop-preserved g c = λ used s.
+    let row = c.in_ok-row.row.now in
+    let at : At c.args.rows.now c.loop.at row = (c.in_ok-row.ensures.lookup.3.0, c.in_ok-row.ensures.lookup.1) in
+    let other : row.key ≡ c.args.key.now → ⊥ = λ k. let e = (g.met.K.Key.compared row.key c.args.key.now).1 k in cc in
+    rw c.from-at-in-loop.ensures (left_more s c.args.key.now c.loop.at c.loop.counter (c.loop.invariant used s) row at other)
 
 pub returns : goal.returns
-returns g c = λ used s. left_none s c.args.key.now c.loop-turn.at c.loop-turn.turn (c.loop-turn.invariant used s) (inr c.loop-turn-test.false)
+returns g c = λ used s. left_none s c.args.key.now c.loop.at c.loop.counter (c.loop.invariant used s) (inr c.loop-test.false)

@@ -4,5 +4,5 @@ use Rattle.flow.specs.Rows.{Sound}
 use Rattle.flow.proofs.Chains.{Left}
 use Rattle.flow.proofs.links.find_row.Given as goal
 
-abbrev pub invariant-loop-turn : goal.invariant-loop-turn
-invariant-loop-turn g l = (used : ℕ) → Sound (λ k. chain_of (g.K.Key.bytes k)) l.rows l.heads used → Left l.rows used l.key l.at l.turn
+abbrev pub invariant-loop : goal.invariant-loop
+invariant-loop g l = (used : ℕ) → Sound (λ k. chain_of (g.K.Key.bytes k)) l.rows l.heads used → Left l.rows used l.key l.at l.counter

@@ -1,14 +1,18 @@
-use Rattle.std.proofs.Common.{◌≡◌, ◌+◌, ◌-◌, ◌≤◌, take, Ok, sym, ap, ◌∙◌, arith}
-use Rattle.std.proofs.lemmas.List.{take_rest}
-use Rattle.policy_text.specs.Policies.{first_by}
-use Rattle.policy_text.proofs.Splits.{first_ok}
+use Rattle.std.proofs.Common.{◌≡◌, [], ◌∷◌, ◌++◌, None, Some, sym, ◌∙◌, refl, arith}
+use Rattle.std.proofs.lemmas.Slice.Eq.{strip_suffix_is}
+use Rattle.std.proofs.lemmas.Bool.Decides.{Decides-eqb}
+use Rattle.policy_text.proofs.Splits.{same_front}
 use Rattle.policy_text.proofs.reader.cut.Goals as goal
+
+pub returns-in_default : goal.returns-in_default
+returns-in_default c = (refl, λ p e. absurd (strip_suffix_is Decides-eqb c.args.line.now (10 ∷ []) None c.in_default.ensures.cases p e))
+
+pub returns-then-front-gt-LONGEST_LINE : goal.returns-then-front-gt-LONGEST_LINE
+returns-then-front-gt-LONGEST_LINE c =
+    let s : c.args.line.now ≡ c.in-Some.front.now ++ 10 ∷ [] = strip_suffix_is Decides-eqb c.args.line.now (10 ∷ []) (Some c.in-Some.front) c.in-Some.ensures.cases in
+    (refl, λ p e. omega (arith, c.if-front-gt-LONGEST_LINE.true, same_front p c.in-Some.front.now (sym e ∙ s)))
 
 pub returns : goal.returns
 returns c =
-    let t = c.args.text.now in
-    let n = c.line_len-n.result in
-    let z : n ≡ n - 0 = omega arith in
-    let short : n ≤ 120 = omega arith in
-    ap (λ k. first_by k t) (sym c.line_len-n.ensures) ∙ first_ok n t c.if-n-text.false short
-    ∙ (λ i. Ok (take (z i) t, sym (take_rest t (n + 1)) i))
+    let s : c.args.line.now ≡ c.in-Some.front.now ++ 10 ∷ [] = strip_suffix_is Decides-eqb c.args.line.now (10 ∷ []) (Some c.in-Some.front) c.in-Some.ensures.cases in
+    (s, c.if-front-gt-LONGEST_LINE.false)

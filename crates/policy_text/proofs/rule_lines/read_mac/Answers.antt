@@ -1,19 +1,23 @@
 use Rattle.std.proofs.Common.{rules}
-use Rattle.policy_text.specs.Lines.{mac_line_of}
+use Rattle.policy.specs.Policies.{parents_of, known_of}
+use Rattle.policy_words.specs.Words.{Reads}
+use Rattle.policy_text.specs.Lines.{taken, known_word_of, mac_line_of}
 use Rattle.policy_text.proofs.rule_lines.read_mac.Goals as goal
 
-pub returns-in_err-station : goal.returns-in_err-station
-unfolding mac_line_of
-returns-in_err-station c = search rules
-
 pub returns-in_err-parent : goal.returns-in_err-parent
-unfolding mac_line_of
-returns-in_err-parent c = search rules
+unfolding mac_line_of known_word_of
+returns-in_err-parent c =
+    let k : Reads c.count_as.result (known_word_of (parents_of c.args.tree.now) c.in_ok-station.rest.now) = c.count_as.ensures (λ v. taken (known_of (parents_of c.args.tree.now) v)) (λ v r l h. search rules) in
+    search rules
 
 pub returns-in_err-meter : goal.returns-in_err-meter
-unfolding mac_line_of
-returns-in_err-meter c = search rules
+unfolding mac_line_of known_word_of
+returns-in_err-meter c =
+    let k : Reads c.count_as.result (known_word_of (parents_of c.args.tree.now) c.in_ok-station.rest.now) = c.count_as.ensures (λ v. taken (known_of (parents_of c.args.tree.now) v)) (λ v r l h. search rules) in
+    search rules
 
 pub returns : goal.returns
-unfolding mac_line_of
-returns c = search rules
+unfolding mac_line_of known_word_of
+returns c =
+    let k : Reads c.count_as.result (known_word_of (parents_of c.args.tree.now) c.in_ok-station.rest.now) = c.count_as.ensures (λ v. taken (known_of (parents_of c.args.tree.now) v)) (λ v r l h. search rules) in
+    search rules

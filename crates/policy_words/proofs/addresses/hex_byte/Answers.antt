@@ -13,8 +13,8 @@ rest t = take (length t - 2) (drop 2 t)
 -- a pair of digits, and the same before what is left
 on : (r s : Result ℕ Cause) (b : ℕ) (t : List ℕ) → Ok b ≡ then r (λ h. then s (λ l. Ok (16 * h + l))) → then {B = ℕ × List ℕ} r (λ h. then s (λ l. Ok (16 * h + l, t))) ≡ Ok (b, t)
 on (Ok h) (Ok l) b t e = let same : 16 * h + l ≡ b = same_ok (sym e) in (λ i. Ok (same i, t))
-on (Ok h) (Err x) b t e = let z : ◌≡◌ {A = ℕ} 0 1 = cc in absurd (omega arith)
-on (Err x) s b t e = let z : ◌≡◌ {A = ℕ} 0 1 = cc in absurd (omega arith)
+on (Ok h) (Err x) b t e = cc
+on (Err x) s b t e = cc
 
 both : (t : List ℕ) (b : ℕ) → 2 ≤ length t → Ok b ≡ then (hex_digit (get_or t 0 0)) (λ h. then (hex_digit (get_or t 1 0)) (λ l. Ok (16 * h + l))) → hex_byte t ≡ Ok (b, rest t)
 both [] b l e = absurd (omega arith)

@@ -1,19 +1,23 @@
-use Rattle.std.proofs.Common.{rules}
-use Rattle.policy_words.specs.Addresses.{station_of}
+use Rattle.std.proofs.Common.{◌≡◌, ℕ, [], List, Some, None, Ok, codes, Result, subst, ◌∙◌, rules}
+use Rattle.packet.specs.declared.kinds.Station.{Station}
+use Rattle.policy_words.specs.declared.causes.Cause.{Cause}
+use Rattle.policy_words.specs.Words.{then, choice, lit, gap, any_of, Reads}
+use Rattle.policy_words.specs.Addresses.{pairs_of, station_of}
+use Rattle.policy_words.proofs.Readings.{then_then}
 use Rattle.policy_words.proofs.addresses.station_word.Goals as goal
 
-pub returns-in-Ok : goal.returns-in-Ok
-unfolding station_of
-returns-in-Ok c = search rules
+-- a station that is not any
+abbrev of : List ℕ → Result (Station × List ℕ) Cause
+of t = then (gap t) (λ u. then (pairs_of 6 [] u) (λ p. Ok (record { source = p.0 }, p.1)))
 
-pub returns-in_err-next : goal.returns-in_err-next
+word : (t : List ℕ) → any_of (of t) t ≡ station_of t
 unfolding station_of
-returns-in_err-next c = search rules
-
-pub returns-in_err-station : goal.returns-in_err-station
-unfolding station_of
-returns-in_err-station c = search rules
+word t i =
+    choice (lit (codes " any") t) (λ u. Ok (None, u))
+    ((then_then {B = Station × List ℕ} (gap t) (λ u. then (pairs_of 6 [] u) (λ p. Ok (record { source = p.0 }, p.1))) (λ p. Ok (Some p.0, p.1))
+    ∙ (λ j. then (gap t) (λ u. then_then {B = Station × List ℕ} (pairs_of 6 [] u) (λ p. Ok (record { source = p.0 }, p.1)) (λ p. Ok (Some p.0, p.1)) j))) i)
 
 pub returns : goal.returns
-unfolding station_of
-returns c = search rules
+returns c =
+    let t = c.args.text.now in
+    subst (Reads c.any_or.result) (word t) (c.any_or.ensures (of t) (λ a h. search rules))

@@ -1,20 +1,14 @@
-use Rattle.std.proofs.Common.{suc, ◌+◌, drop, sym, ◌∙◌, arith}
-use Rattle.std.proofs.lemmas.List.{at_drop_more, at_drop_all}
-use Rattle.std.proofs.lemmas.Bool.{cond-true, cond-false}
-use Rattle.policy_words.specs.Numbers.{digit_run}
+use Rattle.std.proofs.Common.{◌≡◌, not, position, unwrap_or, length, ap, ◌∙◌, rules, tests}
+use Rattle.std.specs.Char.{is_ascii_digit}
+use Rattle.std.proofs.lemmas.Iterator.{YieldsList-from_slice}
+use Rattle.std.proofs.lemmas.Iterator.Search.{position_from_yields_List}
+use Rattle.policy_words.proofs.Digits.{run_place}
 use Rattle.policy_words.proofs.numbers.run.Goals as goal
-
-pub returns-then-not-is_ascii_digit : goal.returns-then-not-is_ascii_digit
-returns-then-not-is_ascii_digit c =
-    let here = at_drop_more digit_run c.args.text.now c.loop-i.i 0 c.loop-i-test.true ∙ cond-false _ _ 0 (sym c.if-not-is_ascii_digit.ensures.value) in
-    omega (arith, c.loop-i.invariant, here)
-
-pub loop-i-preserved : goal.loop-i-preserved
-loop-i-preserved c =
-    let here = at_drop_more digit_run c.args.text.now c.loop-i.i 0 c.loop-i-test.true ∙ cond-true _ (suc (digit_run (drop (c.loop-i.i + 1) c.args.text.now))) 0 (sym c.if-not-is_ascii_digit.ensures.value) in
-    omega (arith, c.loop-i.invariant, here)
 
 pub returns : goal.returns
 returns c =
-    let here = at_drop_all digit_run c.args.text.now c.loop-i.i c.loop-i-test.false in
-    omega (arith, c.loop-i.invariant, here)
+    let t = c.args.text.now in
+    let h : c.position.result ≡ position (λ b. not (is_ascii_digit b)) t =
+    position_from_yields_List (λ b. not (is_ascii_digit b)) _ _ _ c.position.ensures.ran (YieldsList-from_slice t cc) (λ x b q k. search (rules, tests)) in
+    let r : c.unwrap_or.result ≡ unwrap_or c.position.result (length t) = search rules in
+    r ∙ ap (λ o. unwrap_or o (length t)) h ∙ run_place t

@@ -1,25 +1,13 @@
--- The twenty-four bytes are those of the seven numbers.
-use Rattle.std.proofs.Common.{◌++◌, ap, ◌∙◌}
-use Rattle.capture.specs.Numbers.{word_bytes, half_bytes}
-use Rattle.capture.specs.Headers.{magic, major_version, minor_version, ethernet, Fit, header_of}
-use Rattle.capture.proofs.Words.{listed, listed_two, listed_last}
+-- The twenty-four bytes are those of the seven numbers, which read as the header.
+use Rattle.std.proofs.Common.{◌≡◌, ◌++◌, ap, ◌∙◌, arith}
+use Rattle.std.proofs.lemmas.Grind.{common_steps}
+use Rattle.capture.specs.Headers.{header_bytes, header_of, Fit}
 use Rattle.capture.proofs.FileHeads.{header_again}
 use Rattle.capture.proofs.layout.FileHeader.bytes.Goals as goal
 
-pub returns : goal.returns
-returns c =
+pub returns-clause-again : goal.returns-clause-again
+returns-clause-again c rest =
     let h = c.args.self.now in
-    let o = h.order in
-    let is =
-    listed o magic c.word_bytes.result _ c.word_bytes.ensures.value
-    ∙ ap (λ l. word_bytes o magic ++ l) (listed_two o major_version c.half_bytes.result _ c.half_bytes.ensures.value
-    ∙ ap (λ l. half_bytes o major_version ++ l) (listed_two o minor_version c.half_bytes-2.result _ c.half_bytes-2.ensures.value
-    ∙ ap (λ l. half_bytes o minor_version ++ l) (listed o h.zone c.word_bytes-2.result _ c.word_bytes-2.ensures.value
-    ∙ ap (λ l. word_bytes o h.zone ++ l) (listed o h.accuracy c.word_bytes-3.result _ c.word_bytes-3.ensures.value
-    ∙ ap (λ l. word_bytes o h.accuracy ++ l) (listed o h.snap_length c.word_bytes-4.result _ c.word_bytes-4.ensures.value
-    ∙ ap (λ l. word_bytes o h.snap_length ++ l) (listed_last o ethernet c.word_bytes-5.result c.word_bytes-5.ensures.value)))))) in
-    let fit : Fit h = record { zone = c.word_bytes-2.ensures.bound; accuracy = c.word_bytes-3.ensures.bound; snap = c.word_bytes-4.ensures.bound } in
-    record {
-      value = is;
-      again = λ rest. ap (λ l. header_of (l ++ rest)) is ∙ header_again h rest fit;
-    }
+    let is : c.put-7.new.bytes ≡ header_bytes h = grind (arith, common_steps) in
+    let fit : Fit h = record { zone = c.put-4.ensures.bound; accuracy = c.put-5.ensures.bound; snap = c.put-6.ensures.bound } in
+    ap (λ l. header_of (l ++ rest)) is ∙ header_again h rest fit

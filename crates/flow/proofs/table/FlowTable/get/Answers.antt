@@ -1,10 +1,10 @@
 use Rattle.flow.proofs.MapLaws.{read_is, missing_none}
 use Rattle.flow.proofs.table.FlowTable.get.Goals as goal
 
-pub returns-in-Some : goal.returns-in-Some
-returns-in-Some g c es a =
-    read_is g.K.Key.bytes g.met.K.Key.told c.args.self.now es a c.args.key.now c.in-Some.row c.meter.result (c.in-Some.ensures a.whole) c.meter.ensures
+pub returns-in_err-find : goal.returns-in_err-find
+returns-in_err-find g c es a =
+    rw c.from_residual.ensures (missing_none g.met.K.Key.told c.args.self.now es a c.args.key.now c.in_err-find.ensures)
 
-pub returns-in-None : goal.returns-in-None
-returns-in-None g c es a =
-    missing_none g.K.Key.bytes g.met.K.Key.told c.args.self.now es a c.args.key.now (c.in-None.ensures a.whole)
+pub returns : goal.returns
+returns g c es a =
+    read_is g.met.K.Key.told c.args.self.now es a c.args.key.now c.in_ok-find.field-0 c.meter.result c.in_ok-find.ensures c.meter.ensures

@@ -14,23 +14,23 @@ loop-call-preserved g c =
     let i = c.loop-call.call-index in
     let call = c.call-item.result in
     let inv = c.loop-call.invariant in
-    let before = vec_items c.loop-call.replies in (
-      omega (arith, c.push_reserved.ensures.len, inv.0),
-      omega (arith, c.push_reserved.ensures.capacity, inv.1),
-      c.answer.ensures.same ∙ inv.2,
-      c.answer.ensures.rows ∙ inv.3,
-      λ es a.
-          let (now, is, said, left) = inv.4 es a in
+    let before = vec_items c.loop-call.replies in
+    record {
+      len = omega (arith, c.push_reserved.ensures.len, inv.len);
+      capacity = omega (arith, c.push_reserved.ensures.capacity, inv.capacity);
+      same = (c.answer.ensures.same.0 ∙ inv.same.0, c.answer.ensures.same.1 ∙ inv.same.1);
+      map = λ es a.
+          let (now, is, said, left) = inv.map es a in
           let told = c.answer.ensures.mapped now is in
-          let reply : c.answer.result ≡ reply_to bytes rows now call = told.0 ∙ ap (λ n. reply_to bytes n now call) inv.3 in
-          let next : Mapped bytes c.answer.new.self (after_call bytes rows now call) = subst (λ n. Mapped bytes c.answer.new.self (after_call bytes n now call)) inv.3 told.1 in (
+          let reply : c.answer.result ≡ reply_to bytes rows now call = told.0 ∙ ap (λ n. reply_to bytes n now call) inv.same.1 in
+          let next : Mapped c.answer.new.self (after_call bytes rows now call) = subst (λ n. Mapped c.answer.new.self (after_call bytes n now call)) inv.same.1 told.1 in (
             after_call bytes rows now call,
             next,
             replies_more bytes rows now calls i call c.loop-call-test.true c.call-item.is c.answer.result reply before (replies bytes rows es calls) said
                 ∙ ap (λ l. l ++ replies bytes rows (after_call bytes rows now call) (drop (i + 1) calls)) (sym c.push_reserved.ensures.items),
             left ∙ after_more bytes rows now calls i call c.loop-call-test.true c.call-item.is,
-          ),
-    )
+          );
+    }
 
 pub returns : goal.returns
 returns g c =
@@ -41,12 +41,12 @@ returns g c =
     let inv = c.loop-call.invariant in
     let items = vec_items c.loop-call.replies in
     record {
-      same = inv.2;
+      same = inv.same;
       served = λ es a.
-          let (now, is, said, left) = inv.4 es a in
+          let (now, is, said, left) = inv.map es a in
           let none : replies bytes rows now (drop i calls) ≡ [] = at_drop_all (replies bytes rows now) calls i c.loop-call-test.false in
           let all : after_all bytes rows now (drop i calls) ≡ now = at_drop_all (after_all bytes rows now) calls i c.loop-call-test.false in (
             sym (said ∙ ap (λ l. items ++ l) none ∙ append-nil items),
-            subst (λ x. Mapped bytes c.loop-call.self x) (sym (left ∙ all)) is,
+            subst (λ x. Mapped c.loop-call.self x) (sym (left ∙ all)) is,
           );
     }

@@ -1,21 +1,28 @@
-use Rattle.std.proofs.Common.{refl}
+use Rattle.std.proofs.Common.{◌≡◌, ◌<◌, ◌≤◌, Err, rules}
 use Rattle.policing.proofs.Offers.{at_config, went_back, was_settled, was_flowless}
 use Rattle.policing.proofs.cores.Core.offer.Goals as goal
 
-pub returns-then-offer-self : goal.returns-then-offer-self
-returns-then-offer-self g c = record {
-  same = (refl, refl);
-  lawful = at_config g.M.Meter.meaning c.args.self.now c.args.offer _ _ (went_back g.M.Meter.meaning c.args.self.now c.args.offer c.if-offer-self.true);
-}
+pub returns-then-lt-clause-lawful : goal.returns-then-lt-clause-lawful
+returns-then-lt-clause-lawful g c =
+    let p = c.args.self.now in
+    let o = c.args.offer in
+    let f = g.M.Meter.meaning in
+    let lt : o.load.moment.0 < p.clock.0 = search rules in
+    at_config f p o _ _ (went_back f p o lt)
 
-pub returns-in-Ok : goal.returns-in-Ok
-returns-in-Ok g c = record {
-  same = c.settle.ensures.same;
-  lawful = at_config g.M.Meter.meaning c.args.self.now c.args.offer c.settle.new.self c.settle.result (was_settled g.M.Meter.meaning c.args.self.now c.args.offer c.settle.new.self c.settle.result c.in-Ok.flow c.in-Ok.is c.if-offer-self.false c.settle.ensures.settles);
-}
+pub returns-in_err-offer-clause-lawful : goal.returns-in_err-offer-clause-lawful
+returns-in_err-offer-clause-lawful g c =
+    let p = c.args.self.now in
+    let o = c.args.offer in
+    let f = g.M.Meter.meaning in
+    let late : p.clock.0 ≤ o.load.moment.0 = search rules in
+    let e : c.from_residual.result ≡ Err c.in_err-offer.field-0.0 = search rules in
+    rw e (at_config f p o _ _ (was_flowless f p o c.in_err-offer.field-0.0 c.in_err-offer.was late))
 
-pub returns-in-Err : goal.returns-in-Err
-returns-in-Err g c = record {
-  same = (refl, refl);
-  lawful = at_config g.M.Meter.meaning c.args.self.now c.args.offer _ _ (was_flowless g.M.Meter.meaning c.args.self.now c.args.offer c.in-Err.refusal c.in-Err.is c.if-offer-self.false);
-}
+pub returns-clause-lawful : goal.returns-clause-lawful
+returns-clause-lawful g c =
+    let p = c.args.self.now in
+    let o = c.args.offer in
+    let f = g.M.Meter.meaning in
+    let late : p.clock.0 ≤ o.load.moment.0 = search rules in
+    at_config f p o c.settle.new.self c.settle.result (was_settled f p o c.settle.new.self c.settle.result c.in_ok-offer.field-0 c.in_ok-offer.was late c.settle.ensures.settles)

@@ -4,5 +4,6 @@ use Rattle.totals.proofs.rows.Totals.carry.Given as goal
 
 abbrev pub invariant-loop-node : goal.invariant-loop-node
 invariant-loop-node l =
-    (l.self.offered ≡ l.initial.self.offered)
-    × (bumped_all l.initial.self.rows l.path l.colour l.size.0 ≡ bumped_all l.self.rows (drop l.node-index l.path) l.colour l.size.0)
+    let before = l.initial.self in
+    let now = l.self in
+    record before { rows = bumped_all before.rows l.path l.fn.colour l.fn.size.0 } ≡ record now { rows = bumped_all now.rows (drop l.node-index l.path) l.fn.colour l.fn.size.0 }

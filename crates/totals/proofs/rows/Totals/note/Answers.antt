@@ -1,22 +1,19 @@
 use Rattle.std.proofs.Common.{sym, ap, ◌∙◌}
 use Rattle.totals.specs.Totals.{noted, refused_in}
+use Rattle.totals.specs.declared.rows.Totals as table
 use Rattle.totals.proofs.Counted.{counts_more}
 use Rattle.totals.proofs.rows.Totals.note.Goals as goal
 
-pub returns-in-Carried : goal.returns-in-Carried
-returns-in-Carried c =
+pub returns-in-Ok : goal.returns-in-Ok
+returns-in-Ok c =
     let a = c.args in
-    let t = a.self.now in
-    let ks = a.path.now in
-    let n = a.size.0 in
-    counts_more ks n a.answer t c.carry.new.self (c.carry.ensures.offered ∙ c.saturating_add-self.ensures)
-    (c.carry.ensures.rows ∙ ap (noted t.rows ks n) (sym c.in-Carried.is))
+    counts_more a.path.now a.size.0 a.answer a.self.now c.carry.new.self
+    (ap (λ (t : table.Totals). t.offered) c.carry.ensures ∙ c.saturating_add-self.ensures)
+    (ap (λ (t : table.Totals). t.rows) c.carry.ensures ∙ ap (noted a.self.now.rows a.path.now a.size.0) (sym c.in-Ok.is))
 
-pub returns-in-Refused : goal.returns-in-Refused
-returns-in-Refused c =
+pub returns-in-Err : goal.returns-in-Err
+returns-in-Err c =
     let a = c.args in
-    let t = a.self.now in
-    let ks = a.path.now in
-    let n = a.size.0 in
-    counts_more ks n a.answer t c.refuse.new.self (c.refuse.ensures.offered ∙ c.saturating_add-self.ensures)
-    (c.refuse.ensures.rows ∙ ap (refused_in t.rows) c.named.ensures ∙ ap (noted t.rows ks n) (sym c.in-Refused.is))
+    counts_more a.path.now a.size.0 a.answer a.self.now c.refuse.new.self
+    (ap (λ (t : table.Totals). t.offered) c.refuse.ensures ∙ c.saturating_add-self.ensures)
+    (ap (λ (t : table.Totals). t.rows) c.refuse.ensures ∙ ap (refused_in a.self.now.rows) c.named.ensures ∙ ap (noted a.self.now.rows a.path.now a.size.0) (sym c.in-Err.is))

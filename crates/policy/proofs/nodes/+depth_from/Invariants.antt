@@ -1,4 +1,0 @@
-use Rattle.policy.proofs.nodes.+depth_from.Given as goal
-
-abbrev pub decreases-depth_from : goal.decreases-depth_from
-decreases-depth_from l = l.node
