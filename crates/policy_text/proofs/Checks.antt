@@ -8,7 +8,7 @@ use Rattle.kinds.specs.declared.profiles.Fault.{Fault}
 use Rattle.kinds.specs.declared.profiles.Fault.TheVariants.{BadRate, BadDepth, PeakBelowCommitted}
 use Rattle.kinds.specs.declared.profiles.Profile.{Profile}
 use Rattle.kinds.specs.declared.profiles.Profile.TheVariants.{Vs, Lb, Tb, Sr, Tr}
-use Rattle.kinds.specs.Making.{within, rate_of, tolerance_of, burst_of, loose_burst_of, excess_of, peak_of, gcra_terms, token_terms, single_terms, two_terms}
+use Rattle.kinds.specs.Making.{within, rate_of, loose_burst_of, gcra_terms, token_terms, single_terms, two_terms}
 use Rattle.policy.specs.declared.rules.Refusal.{Refusal}
 use Rattle.policy.specs.declared.rules.Refusal.TheVariants.{WrongNumber, UnknownParent, TooDeep}
 use Rattle.policy.specs.Trees.{most_depth, depth_of}
@@ -18,7 +18,9 @@ use Rattle.policy_words.specs.Words.{then, stop, field, judged}
 use Rattle.policy_words.specs.Texts.{word_on}
 use Rattle.policy_words.specs.Laws.{Word}
 use Rattle.policy_words.proofs.Readings.{then_ok, cond_ok, same_ok, Wrote, number_word}
-use Rattle.policy_text.specs.Amounts.{ranged, amount_of}
+use Rattle.policy_text.specs.declared.amounts.Amount.{Amount}
+use Rattle.policy_text.specs.declared.amounts.Amount.TheVariants.{Rate, Tolerance, Burst, LooseBurst, Excess, Peak}
+use Rattle.policy_text.specs.Amounts.{passed, check_of, ranged, amount_of}
 use Rattle.policy_text.specs.Places.{placed}
 use Rattle.policy_text.specs.Lines.{taken, number_word_of, under_word_of, known_word_of}
 use Rattle.policy_text.specs.Texts.{ProfileOk}
@@ -68,23 +70,7 @@ judged_word {E} turn turn_ok ok_turn check keeps = record { back = λ t v rest h
         ap (λ r. then r (λ q. then (turn (check q.0)) (λ m. Ok (m, q.1)))) (number_word.forth v rest h.0 e)
         ∙ ap (λ r. then r (λ m. Ok (m, rest))) (ap turn h.1 ∙ ok_turn v)
 
--- the amounts: what a number of a meter's words has to be
-
-pub data Amount : Type 0 where
-  Rate : Amount
-  Tolerance : Amount
-  Burst : Amount
-  LooseBurst : Amount
-  Excess : ℕ → Amount
-  Peak : ℕ → Amount
-
-abbrev pub check_of : Amount → ℕ → Result ℕ Fault
-check_of Rate = rate_of
-check_of Tolerance = tolerance_of
-check_of Burst = burst_of
-check_of LooseBurst = loose_burst_of
-check_of (Excess cbs) = excess_of cbs
-check_of (Peak cir) = peak_of cir
+-- the amounts
 
 abbrev pub Within : Amount → ℕ → Type 0
 Within a v = check_of a v ≡ Ok v
@@ -111,6 +97,14 @@ and_ok a v x b h = let p = and_pair (check_of a v) x b h in (p.1 ∙ ap Ok (amou
 
 ok_and : {X : Type 0} (a : Amount) (v : ℕ) (x : Result X Fault) → Within a v → result_and (check_of a v) x ≡ x
 ok_and a v x h = ap (λ r. result_and r x) h
+
+-- a check that passes answers with the number
+pub passed_within : (a : Amount) (v : ℕ) → passed (check_of a v) ≡ Ok tt → Within a v
+passed_within a v h = go (check_of a v) refl h
+  where
+    go : (r : Result ℕ Fault) → check_of a v ≡ r → passed r ≡ Ok tt → check_of a v ≡ Ok v
+    go (Ok n) e k = e ∙ ap Ok (amount_keeps a v n e)
+    go (Err f) e k = absurd (err_ok f tt k)
 
 within_high : (low high n : ℕ) (f : Fault) → within low high f n ≡ Ok n → n ≤ high
 within_high low high n f h =
@@ -142,6 +136,9 @@ amount_word a =
       back = λ t v rest h. let b = w.back t v rest h in (b.0, b.1.1, b.2);
       forth = λ v rest h e. w.forth v rest (amount_few a v h, h) e;
     }
+
+pub amount_checked : (a : Amount) (t : List ℕ) (v : ℕ) (rest : List ℕ) → amount_of (check_of a) t ≡ Ok (v, rest) → Within a v
+amount_checked a t v rest h = ((amount_word a).back t v rest h).1
 
 -- amounts that can always follow
 pub excess_one : (cbs : ℕ) → Within (Excess cbs) 1

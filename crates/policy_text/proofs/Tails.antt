@@ -30,11 +30,13 @@ use Rattle.policy_text.specs.declared.lines.NodeLine.{NodeLine}
 use Rattle.policy_text.specs.declared.lines.Line.{Line}
 use Rattle.policy_text.specs.declared.lines.Line.TheVariants as line
 use Rattle.policy_text.specs.Places.{placed}
-use Rattle.policy_text.specs.Amounts.{amount_of}
+use Rattle.policy_text.specs.Amounts.{check_of, amount_of}
 use Rattle.policy_text.specs.Meters.{two_of, last_two_of, single_of, two_rate_of, meter_of}
 use Rattle.policy_text.specs.Lines.{taken, done, node_room, rule_room, number_word_of, under_word_of, node_line_of, conversations_of, treatment_of, ip_line_of, mac_line_of, line_of}
 use Rattle.policy_text.specs.Texts.{profile_text, ProfileOk, rule_text, line_text, LineOk}
-use Rattle.policy_text.proofs.Checks.{Amount, Rate, Tolerance, Burst, LooseBurst, Excess, Peak, check_of, err_ok, placed_ok, Within, amount_word, amount_few, excess_one, peak_same, node_number_word, under_word, known_word, number_next, under_top, known_top, ok_before, buys}
+use Rattle.policy_text.specs.declared.amounts.Amount.{Amount}
+use Rattle.policy_text.specs.declared.amounts.Amount.TheVariants.{Rate, Tolerance, Burst, LooseBurst, Excess, Peak}
+use Rattle.policy_text.proofs.Checks.{err_ok, placed_ok, Within, amount_word, amount_few, excess_one, peak_same, node_number_word, under_word, known_word, number_next, under_top, known_top, ok_before, buys}
 use Rattle.policy_text.proofs.Spaces.{spaces, Adds, adds_word, adds_prefix, adds_station, adds_protocol, adds_class, adds_mode, Shared, shared_none, shared_on}
 
 -- where a reading failed

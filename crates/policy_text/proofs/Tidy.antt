@@ -10,7 +10,9 @@ use Rattle.policy_words.proofs.Tidy.{clean, Tidy, tidy_decimal, tidy_word, tidy_
 use Rattle.policy_text.specs.declared.lines.Line.{Line}
 use Rattle.policy_text.specs.declared.lines.Line.TheVariants as line
 use Rattle.policy_text.specs.Texts.{profile_text, rule_text, SelectorOk, line_text, LineOk}
-use Rattle.policy_text.proofs.Checks.{Amount, Rate, Tolerance, Burst, LooseBurst, Excess, Peak, Within, amount_few, Bought, bought_by, before_ok, number_is, known_low, under_low}
+use Rattle.policy_text.specs.declared.amounts.Amount.{Amount}
+use Rattle.policy_text.specs.declared.amounts.Amount.TheVariants.{Rate, Tolerance, Burst, LooseBurst, Excess, Peak}
+use Rattle.policy_text.proofs.Checks.{Within, amount_few, Bought, bought_by, before_ok, number_is, known_low, under_low}
 
 tidy_amount : (n : ℕ) (a : Amount) (v : ℕ) (t : List ℕ) → Within a v → Tidy n t → Tidy (14 + n) (word_on v t)
 tidy_amount n a v t h = tidy_word n v t (amount_few a v h)

@@ -22,7 +22,10 @@ use Rattle.policy_text.specs.Meters.{last_two_of, single_of, two_rate_of, meter_
 use Rattle.policy_text.specs.Lines.{taken, done, node_room, rule_room, node_line_of, ip_line_of, mac_line_of, line_of}
 use Rattle.policy_text.specs.Texts.{profile_text, ProfileOk, rule_text, SelectorOk, line_text, LineOk}
 use Rattle.policy_text.specs.Laws.{LineCanonical}
-use Rattle.policy_text.proofs.Checks.{Amount, Rate, Tolerance, Burst, LooseBurst, Excess, Peak, check_of, placed_ok, Within, amount_word, node_number_word, under_word, known_word, number_keeps, number_is, known_low, under_low, before_ok, Bought, bought_by}
+use Rattle.policy_text.specs.Amounts.{check_of}
+use Rattle.policy_text.specs.declared.amounts.Amount.{Amount}
+use Rattle.policy_text.specs.declared.amounts.Amount.TheVariants.{Rate, Tolerance, Burst, LooseBurst, Excess, Peak}
+use Rattle.policy_text.proofs.Checks.{placed_ok, Within, amount_word, node_number_word, under_word, known_word, number_keeps, number_is, known_low, under_low, before_ok, Bought, bought_by}
 use Rattle.policy_text.proofs.Tails.{Headed, node_headed, ip_headed, mac_headed, line_by, two_on, last_two_on, conversations_on, treatment_on}
 
 headed_back : (ps : List ℕ) (n : ℕ) (ks : List ℕ) (room : Result (Unit {0}) Cause) (reads : List ℕ → Result Line LineFault) → Headed ps n ks room reads → (t u : List ℕ) (x : Line) → lit ks t ≡ Ok u → then (placed 1 room) (λ _. reads u) ≡ Ok x → (t ≡ line_text x) × LineOk ps n x

@@ -1,21 +1,56 @@
 // The numbers of a meter's words: each is of the form of a number, and then in its range.
-ghost use Rattle.std.specs.Prelude.{ℕ, Result};
-ghost use Rattle.kinds.specs.declared.profiles.Fault.{Fault};
-ghost use Rattle.policy_words.specs.Words.{Reads, Computes};
-ghost use Rattle.policy_text.specs.Amounts.{amount_of};
+ghost use Rattle.std.specs.Prelude.{◌≡◌};
+ghost use Rattle.policy_words.specs.Words.{Reads};
+ghost use Rattle.policy_text.specs.Amounts.{passed, check_of, amount_of};
 
+use kinds::making::{burst, excess, loose_burst, peak, rate, tolerance};
 use kinds::profiles::Fault;
 use policy_words::causes::Cause;
-use policy_words::words::count_as;
+use policy_words::words::count;
 
-// What `check` makes of the number that is the next word. Its fault is turned here: of a conversion by `?` the clause
-// would have to name the laws.
-pub fn amount_word<T, F: FnOnce(u64) -> Result<T, Fault>>(
-    text: &[u8],
-    check: F,
-) -> Result<(T, &[u8]), Cause>
-    requires { F.IsAlwaysCallable check }
-    ensures { (f : ℕ → Result T Fault) → Computes (F.post check) f → Reads result (amount_of f text.now) }
+// What a number of a meter has to be. An enum and no closure: a call of what is handed in would have a premise.
+#[derive(Clone, Copy, PartialEq, Eq, Debug)]
+pub enum Amount {
+    // an interval or a rate
+    Rate,
+    Tolerance,
+    // a burst that must be something
+    Burst,
+    // a burst that may be nothing
+    LooseBurst,
+    // the excess burst behind this committed one
+    Excess(u32),
+    // the peak rate behind this committed one
+    Peak(u32),
+}
+
+fn passed<T: Drop>(checked: Result<T, Fault>) -> Result<(), Fault>
+    ensures { result ≡ passed checked }
 {
-    count_as(text, |n| check(n).map_err(Cause::Range))
+    checked.map(|_| ())
+}
+
+impl Amount {
+    pub fn check(self, number: u64) -> Result<(), Fault>
+        ensures { result ≡ passed (check_of self number) }
+    {
+        match self {
+            Amount::Rate => passed(rate(number)),
+            Amount::Tolerance => passed(tolerance(number)),
+            Amount::Burst => passed(burst(number)),
+            Amount::LooseBurst => passed(loose_burst(number)),
+            Amount::Excess(cbs) => passed(excess(cbs, number)),
+            Amount::Peak(cir) => passed(peak(cir, number)),
+        }
+    }
+}
+
+// The next word, a number that is such an amount.
+#[tactic(auto, unfolding(crate::specs::Amounts::amount_of), using(crate::proofs::Checks::passed_within))]
+pub fn amount_word(text: &[u8], amount: Amount) -> Result<(u64, &[u8]), Cause>
+    ensures { Reads result (amount_of (check_of amount) text.now) }
+{
+    let (value, rest) = count(text)?;
+    amount.check(value).map_err(Cause::Range)?;
+    Ok((value, rest))
 }

@@ -1,28 +1,26 @@
 // The words of a meter, which end a line.
-ghost use Rattle.std.specs.Prelude.{◌≡◌, ℕ, ◌<◌, Result};
-ghost use Rattle.kinds.specs.declared.profiles.Fault.{Fault};
-ghost use Rattle.kinds.specs.Making.{rate_of, tolerance_of};
-ghost use Rattle.policy_words.specs.Words.{Reads, Computes};
+ghost use Rattle.std.specs.Prelude.{◌≡◌, ◌<◌, IfOk, Ok};
+ghost use Rattle.policy_words.specs.Words.{Reads};
+ghost use Rattle.policy_text.specs.Amounts.{check_of};
 ghost use Rattle.policy_text.specs.Meters.{two_of, last_two_of, single_of, two_rate_of, meter_of};
 
-use crate::amounts::amount_word;
+use crate::amounts::{Amount, amount_word};
 use crate::lines::{LineFault, at};
-use kinds::making::{burst, excess, loose_burst, peak, rate, tolerance};
-use kinds::profiles::{Fault, Profile};
+use kinds::profiles::Profile;
 use policy_words::words::{ended, keyword};
 
-// Two numbers by their checks, the first of them the word of that place. No struct of a text and its place: each step
-// counts one word on, so that nothing in the type would bound it, and the `requires` would stay.
-fn two<A: Drop, B: Drop, F: FnOnce(u64) -> Result<A, Fault>, G: FnOnce(u64) -> Result<B, Fault>>(
+// Two amounts, the first of them the word of that place. No struct of a text and its place: each step counts one word on,
+// so that nothing in the type would bound it, and the `requires` would stay.
+#[tactic(auto, unfolding(crate::specs::Meters::two_of))]
+fn two(
     text: &[u8],
     word: u8,
-    first: F,
-    second: G,
-) -> Result<((A, B), &[u8]), LineFault>
-    requires short { word < 100 }
-    requires one { F.IsAlwaysCallable first }
-    requires other { G.IsAlwaysCallable second }
-    ensures { (f : ℕ → Result A Fault) (g : ℕ → Result B Fault) → Computes (F.post first) f → Computes (G.post second) g → Reads result (two_of word f g text.now) }
+    first: Amount,
+    second: Amount,
+) -> Result<((u64, u64), &[u8]), LineFault>
+    requires { word < 100 }
+    ensures value { Reads result (two_of word (check_of first) (check_of second) text.now) }
+    ensures within { IfOk result (λ p. (check_of first p.0.0 ≡ Ok p.0.0) × (check_of second p.0.1 ≡ Ok p.0.1)) }
 {
     let (a, rest) = at(word, amount_word(text, first))?;
     let (b, rest) = at(word + 1, amount_word(rest, second))?;
@@ -30,16 +28,10 @@ fn two<A: Drop, B: Drop, F: FnOnce(u64) -> Result<A, Fault>, G: FnOnce(u64) -> R
 }
 
 // The same, at the end of the line.
-fn last_two<
-    A: Drop,
-    B: Drop,
-    F: FnOnce(u64) -> Result<A, Fault>,
-    G: FnOnce(u64) -> Result<B, Fault>,
->(text: &[u8], word: u8, first: F, second: G) -> Result<(A, B), LineFault>
-    requires short { word < 100 }
-    requires one { F.IsAlwaysCallable first }
-    requires other { G.IsAlwaysCallable second }
-    ensures { (f : ℕ → Result A Fault) (g : ℕ → Result B Fault) → Computes (F.post first) f → Computes (G.post second) g → result ≡ last_two_of word f g text.now }
+#[tactic(auto, unfolding(crate::specs::Meters::last_two_of))]
+fn last_two(text: &[u8], word: u8, first: Amount, second: Amount) -> Result<(u64, u64), LineFault>
+    requires { word < 100 }
+    ensures { result ≡ last_two_of word (check_of first) (check_of second) text.now }
 {
     let (pair, rest) = two(text, word, first, second)?;
     at(word + 2, ended(rest))?;
@@ -47,42 +39,26 @@ fn last_two<
 }
 
 // CIR, CBS and EBS.
+#[tactic(auto, unfolding(crate::specs::Meters::single_of))]
 fn single_rate(text: &[u8], word: u8) -> Result<Profile, LineFault>
     requires { word < 100 }
     ensures { result ≡ single_of word text.now }
 {
-    let ((cir, cbs), rest) = two(text, word, rate, loose_burst)?;
-    let (ebs, rest) = at(word + 2, amount_word(rest, |n| excess(cbs, n)))?;
+    let ((cir, cbs), rest) = two(text, word, Amount::Rate, Amount::LooseBurst)?;
+    let (ebs, rest) = at(word + 2, amount_word(rest, Amount::Excess(cbs as u32)))?;
     at(word + 3, ended(rest))?;
-    Ok(Profile::Sr {
-        cir: u64::from(cir),
-        cbs: u64::from(cbs),
-        ebs: u64::from(ebs),
-    })
+    Ok(Profile::Sr { cir, cbs, ebs })
 }
 
 // CIR, CBS, PIR and PBS.
+#[tactic(auto, unfolding(crate::specs::Meters::two_rate_of))]
 fn two_rate(text: &[u8], word: u8) -> Result<Profile, LineFault>
     requires { word < 98 }
     ensures { result ≡ two_rate_of word text.now }
 {
-    let ((cir, cbs), rest) = two(text, word, rate, burst)?;
-    let (pir, pbs) = last_two(rest, word + 2, |n| peak(cir, n), burst)?;
-    Ok(Profile::Tr {
-        cir: u64::from(cir),
-        cbs: u64::from(cbs),
-        pir: u64::from(pir),
-        pbs: u64::from(pbs),
-    })
-}
-
-// The numbers of `vs` and of `lb`.
-fn interval_tolerance(text: &[u8], word: u8) -> Result<(u64, u64), LineFault>
-    requires { word < 100 }
-    ensures { result ≡ last_two_of word rate_of tolerance_of text.now }
-{
-    let (interval, tolerance) = last_two(text, word, rate, tolerance)?;
-    Ok((u64::from(interval), tolerance))
+    let ((cir, cbs), rest) = two(text, word, Amount::Rate, Amount::Burst)?;
+    let (pir, pbs) = last_two(rest, word + 2, Amount::Peak(cir as u32), Amount::Burst)?;
+    Ok(Profile::Tr { cir, cbs, pir, pbs })
 }
 
 // What the words from that place on buy, all numbers in range.
@@ -92,25 +68,22 @@ pub(crate) fn read_meter(text: &[u8], word: u8) -> Result<Profile, LineFault>
     ensures { result ≡ meter_of word text.now }
 {
     if let Ok(rest) = keyword(text, b" vs") {
-        let (interval, tolerance) = interval_tolerance(rest, word + 1)?;
+        let (interval, tolerance) = last_two(rest, word + 1, Amount::Rate, Amount::Tolerance)?;
         return Ok(Profile::Vs {
             interval,
             tolerance,
         });
     }
     if let Ok(rest) = keyword(text, b" lb") {
-        let (interval, tolerance) = interval_tolerance(rest, word + 1)?;
+        let (interval, tolerance) = last_two(rest, word + 1, Amount::Rate, Amount::Tolerance)?;
         return Ok(Profile::Lb {
             interval,
             tolerance,
         });
     }
     if let Ok(rest) = keyword(text, b" tb") {
-        let (rate, burst) = last_two(rest, word + 1, rate, burst)?;
-        return Ok(Profile::Tb {
-            rate: u64::from(rate),
-            burst: u64::from(burst),
-        });
+        let (rate, burst) = last_two(rest, word + 1, Amount::Rate, Amount::Burst)?;
+        return Ok(Profile::Tb { rate, burst });
     }
     if let Ok(rest) = keyword(text, b" sr") {
         return single_rate(rest, word + 1);

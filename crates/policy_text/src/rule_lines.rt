@@ -15,7 +15,7 @@ use policy::tree::Tree;
 use policy_words::addresses::{prefix_word, station_word};
 use policy_words::causes::Cause;
 use policy_words::choices::{class_word, mode_word, protocol_word};
-use policy_words::words::{count_as, keyword};
+use policy_words::words::{count, keyword};
 
 // There may be one more node.
 fn node_room(tree: &Tree) -> Result<(), Cause>
@@ -34,16 +34,15 @@ fn rule_room(policy: &Policy<AnyMeter>) -> Result<(), Cause>
 }
 
 // The words of a node's line after the first.
-#[tactic(auto, unfolding(crate::specs::Lines::node_line_of))]
+#[tactic(auto, unfolding(crate::specs::Lines::node_line_of, crate::specs::Lines::number_word_of, crate::specs::Lines::under_word_of))]
 fn read_node(text: &[u8], tree: &Tree) -> Result<NodeLine, LineFault>
     ensures { result ≡ node_line_of (parents_of tree.now) text.now }
 {
     at(1, node_room(tree))?;
-    let (number, rest) = at(
-        2,
-        count_as(text, |n| tree.number(n).map_err(Cause::Refused)),
-    )?;
-    let (parent, rest) = at(3, count_as(rest, |n| tree.under(n).map_err(Cause::Refused)))?;
+    let (number, rest) = at(2, count(text))?;
+    let number = at(2, tree.number(number).map_err(Cause::Refused))?;
+    let (parent, rest) = at(3, count(rest))?;
+    let parent = at(3, tree.under(parent).map_err(Cause::Refused))?;
     let profile = read_meter(rest, 4)?;
     Ok(NodeLine {
         number,
@@ -74,12 +73,13 @@ fn treatment(text: &[u8]) -> Result<((Class, Mode), &[u8]), LineFault>
 }
 
 // The words after the first of a rule for conversations.
-#[tactic(auto, unfolding(crate::specs::Lines::ip_line_of))]
+#[tactic(auto, unfolding(crate::specs::Lines::ip_line_of, crate::specs::Lines::known_word_of))]
 fn read_ip(text: &[u8], tree: &Tree) -> Result<Rule<Profile>, LineFault>
     ensures { result ≡ ip_line_of (parents_of tree.now) text.now }
 {
     let ((source, destination, protocol), rest) = conversations(text)?;
-    let (parent, rest) = at(5, count_as(rest, |n| tree.known(n).map_err(Cause::Refused)))?;
+    let (parent, rest) = at(5, count(rest))?;
+    let parent = at(5, tree.known(parent).map_err(Cause::Refused))?;
     let ((class, mode), rest) = treatment(rest)?;
     let meter = read_meter(rest, 8)?;
     let selector = Selector::Ip(IpRule {
@@ -97,12 +97,13 @@ fn read_ip(text: &[u8], tree: &Tree) -> Result<Rule<Profile>, LineFault>
 }
 
 // The words after the first of a rule for stations.
-#[tactic(auto, unfolding(crate::specs::Lines::mac_line_of))]
+#[tactic(auto, unfolding(crate::specs::Lines::mac_line_of, crate::specs::Lines::known_word_of))]
 fn read_mac(text: &[u8], tree: &Tree) -> Result<Rule<Profile>, LineFault>
     ensures { result ≡ mac_line_of (parents_of tree.now) text.now }
 {
     let (station, rest) = at(2, station_word(text))?;
-    let (parent, rest) = at(3, count_as(rest, |n| tree.known(n).map_err(Cause::Refused)))?;
+    let (parent, rest) = at(3, count(rest))?;
+    let parent = at(3, tree.known(parent).map_err(Cause::Refused))?;
     let meter = read_meter(rest, 4)?;
     Ok(Rule {
         selector: Selector::Mac(station),

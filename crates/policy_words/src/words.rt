@@ -56,7 +56,7 @@ pub fn count(text: &[u8]) -> Result<(u64, &[u8]), Cause>
 }
 
 // What `check` makes of the number that is the next word.
-pub fn count_as<T, F: FnOnce(u64) -> Result<T, Cause>>(
+pub(crate) fn count_as<T, F: FnOnce(u64) -> Result<T, Cause>>(
     text: &[u8],
     check: F,
 ) -> Result<(T, &[u8]), Cause>
