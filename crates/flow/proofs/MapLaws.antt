@@ -4,7 +4,6 @@ use Rattle.std.proofs.Common.{◌≡◌, ℕ, ◌+◌, ◌<◌, Bool, true, fals
 use Rattle.std.proofs.lemmas.List.{at_drop_more}
 use Rattle.std.proofs.lemmas.Slice.Eq.{bytes_eq-Decides}
 use Rattle.std.proofs.lemmas.Bool.{cases_Bool, lt-ltb, le-ltb}
-use Rattle.std.specs.declared.cmp.PartialEq as comparing
 use Rattle.std.specs.Option.{ok_or}
 use Rattle.flow.specs.declared.key.Key as keys
 use Rattle.flow.specs.declared.row.Call.{Call}
@@ -71,9 +70,9 @@ unit_of (Ok _) = Ok tt
 unit_of (Err e) = Err e
 
 -- over every kind of key and meter; keys with equal bytes are equal
-module _ {K M : Type 0} {kind : keys.Ghosts K} {eq : comparing.Ghosts K} (told : (j k : K) → kind.bytes j ≡ kind.bytes k → j ≡ k) where
+module _ {K M : Type 0} {kind : keys.Ghosts K} (told : (j k : K) → kind.bytes j ≡ kind.bytes k → j ≡ k) where
   -- a table with the same rows is the same map
-  pub same_mapped : (t u : FlowTable K M kind eq) (es : List (Entry K M)) → Mapped t es → Same t u → Mapped u es
+  pub same_mapped : (t u : FlowTable K M kind) (es : List (Entry K M)) → Mapped t es → Same t u → Mapped u es
   same_mapped t u es a (p, q, r) =
       record {
         count = r ∙ a.count;
@@ -81,7 +80,7 @@ module _ {K M : Type 0} {kind : keys.Ghosts K} {eq : comparing.Ghosts K} (told :
         from = λ k m h. rw (p, r) (a.from k m h);
       }
 
-  module _ (t : FlowTable K M kind eq) (es : List (Entry K M)) (a : Mapped t es) (k : K) where
+  module _ (t : FlowTable K M kind) (es : List (Entry K M)) (a : Mapped t es) (k : K) where
     none_by : (r : Option M) → lookup kind.bytes es k ≡ r → Missing t k → None ≡ r
     none_by None e gone = refl
     none_by (Some m) e gone = let h = a.from k m e in absurd (gone h.0 h.2 (h.1, h.3, h.4))
@@ -93,7 +92,7 @@ module _ {K M : Type 0} {kind : keys.Ghosts K} {eq : comparing.Ghosts K} (told :
     row_held i row = (row.1.0.meter, a.to k row.1.0.meter (i, row.1.0, row.0, row.1.1, row.1.2, refl))
 
     -- what is put in the table is put in the map
-    pub put_mapped : (u : FlowTable K M kind eq) (m : M) → Puts t u k m → u.used ≡ grown kind.bytes told (lookup kind.bytes es k) (length es) → Mapped u (put kind.bytes es k m)
+    pub put_mapped : (u : FlowTable K M kind) (m : M) → Puts t u k m → u.used ≡ grown kind.bytes told (lookup kind.bytes es k) (length es) → Mapped u (put kind.bytes es k m)
     put_mapped u m p count =
         record {
           count = count ∙ sym (length_put kind.bytes told es k m);
@@ -113,14 +112,14 @@ module _ {K M : Type 0} {kind : keys.Ghosts K} {eq : comparing.Ghosts K} (told :
     read_is i (Some m) row h = sym (a.to k m (i, row.1.0, row.0, row.1.1, row.1.2, sym (h.1 row.1.0 row.1.1)))
     read_is i None row h = absurd (omega (arith, row.0))
 
-    abbrev Answers : FlowTable K M kind eq → M → Result (Unit {0}) Unplaced → Type 0
+    abbrev Answers : FlowTable K M kind → M → Result (Unit {0}) Unplaced → Type 0
     Answers u m r = let room = fits kind.bytes (length (rows_of t)) es k in (r ≡ placed room) × Mapped u (cond room (put kind.bytes es k m) es)
 
-    answers_by : (u : FlowTable K M kind eq) (m : M) (b : Bool) → fits kind.bytes (length (rows_of t)) es k ≡ b → Mapped u (cond b (put kind.bytes es k m) es) → Answers u m (placed b)
+    answers_by : (u : FlowTable K M kind) (m : M) (b : Bool) → fits kind.bytes (length (rows_of t)) es k ≡ b → Mapped u (cond b (put kind.bytes es k m) es) → Answers u m (placed b)
     answers_by u m b e h = subst (λ v. (placed b ≡ placed v) × Mapped u (cond v (put kind.bytes es k m) es)) (sym e) (refl, h)
 
     -- the meter of the key's row is replaced
-    pub set_mapped : (u : FlowTable K M kind eq) (i : ℕ) (m : M) (r : Option (Unit {0})) → RowOf t i k → Replaces t u i m r → Answers u m (ok_or r Full)
+    pub set_mapped : (u : FlowTable K M kind) (i : ℕ) (m : M) (r : Option (Unit {0})) → RowOf t i k → Replaces t u i m r → Answers u m (ok_or r Full)
     set_mapped u i m (Some _) row h =
         let held = row_held i row in
         answers_by u m true
@@ -129,7 +128,7 @@ module _ {K M : Type 0} {kind : keys.Ghosts K} {eq : comparing.Ghosts K} (told :
     set_mapped u i m None row h = absurd (omega (arith, h.0, row.0))
 
     -- the key gets a row, or there is none
-    pub insert_mapped : (u : FlowTable K M kind eq) (m : M) (r : Result ℕ Unplaced) → Missing t k → Places t u k m r → Answers u m (unit_of r)
+    pub insert_mapped : (u : FlowTable K M kind) (m : M) (r : Result ℕ Unplaced) → Missing t k → Places t u k m r → Answers u m (unit_of r)
     insert_mapped u m (Ok i) gone h =
         let none = missing_none gone in
         answers_by u m true

@@ -7,7 +7,6 @@ use Rattle.std.specs.Coded.{×_prop, Unit-prop, →_prop, le_prop, Coded-set, co
 use mathlib.Core.HLevel.{⊥_prop}
 use lib.ListN.{length-map}
 use Rattle.flow.specs.declared.row.Row.{Row}
-use Rattle.std.specs.declared.cmp.PartialEq as comparing
 use Rattle.flow.specs.declared.key.Key as keys
 use Rattle.flow.specs.declared.table.FlowTable.{FlowTable}
 use Rattle.flow.specs.Keys.{chain_of}
@@ -74,11 +73,11 @@ module _ {K M : Type 0} {spread : K → ℕ} {rows : List (Row K M)} {heads : Li
     once = λ i j k l m y z. ∥∥₁_elim t (Coded-set coded_ℕ i j) (λ s. s.once i j k l m y z);
   }
 
-pub sound : {K M : Type 0} {kind : keys.Ghosts K} {eq : comparing.Ghosts K} (t : FlowTable K M kind eq) → Sound (λ k. chain_of (kind.bytes k)) (rows_of t) t.heads t.used
+pub sound : {K M : Type 0} {kind : keys.Ghosts K} (t : FlowTable K M kind) → Sound (λ k. chain_of (kind.bytes k)) (rows_of t) t.heads t.used
 sound t = sound_of t.whole (λ k. omega arith)
 
 -- a table that is full, and one that is not
-module _ {K M : Type 0} {kind : keys.Ghosts K} {eq : comparing.Ghosts K} (t : FlowTable K M kind eq) where
+module _ {K M : Type 0} {kind : keys.Ghosts K} (t : FlowTable K M kind) where
   pub is_full : true ≡ leb (length (rows_of t)) t.used → length (rows_of t) ≤ t.used
   is_full e = leb-true (length (rows_of t)) t.used (sym e)
 

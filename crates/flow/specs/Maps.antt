@@ -9,7 +9,6 @@
 -- Assumes nothing.
 use Rattle.std.specs.Prelude.{◌≡◌, ℕ, Bool, cond, ◌||◌, List, [], ◌∷◌, length, is_some, Some, None, Ok, Err, Option, Result, nat_lt}
 use Rattle.std.specs.Str.{bytes_eq}
-use Rattle.std.specs.declared.cmp.PartialEq as comparing
 use Rattle.flow.specs.declared.key.Key as keys
 use Rattle.flow.specs.declared.row.Call.{Call}
 use Rattle.flow.specs.declared.row.Call.TheVariants.{Look, Place}
@@ -66,14 +65,14 @@ module _ {K M : Type 0} (bytes : K → List ℕ) where
   after_all rows es (c ∷ cs) = after_all rows (after_call rows es c) cs
 
 -- over every kind of key and meter
-module _ {K M : Type 0} {kind : keys.Ghosts K} {eq : comparing.Ghosts K} where
-  pub record Mapped (t : FlowTable K M kind eq) (es : List (Entry K M)) : Type 0 where
+module _ {K M : Type 0} {kind : keys.Ghosts K} where
+  pub record Mapped (t : FlowTable K M kind) (es : List (Entry K M)) : Type 0 where
     pub count : t.used ≡ length es
     pub to : (k : K) (m : M) → Held t k m → lookup kind.bytes es k ≡ Some m
     pub from : (k : K) (m : M) → lookup kind.bytes es k ≡ Some m → Held t k m
 
   -- whatever map the table was, the replies are the map's, and the table is the map that the calls leave
-  abbrev pub Served : FlowTable K M kind eq → FlowTable K M kind eq → List (Call K M) → List (Reply M) → Type 0
+  abbrev pub Served : FlowTable K M kind → FlowTable K M kind → List (Call K M) → List (Reply M) → Type 0
   Served t u cs rs =
       (es : List (Entry K M)) → Mapped t es →
       (rs ≡ replies kind.bytes (length (rows_of t)) es cs) × Mapped u (after_all kind.bytes (length (rows_of t)) es cs)

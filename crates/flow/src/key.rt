@@ -5,7 +5,7 @@ ghost use Rattle.flow.specs.Keys.{chain_of};
 // How many chains a table has.
 pub const CHAINS: usize = 64;
 
-pub trait Key: Sized + PartialEq {
+pub trait Key: Sized {
     // The number of bytes, and the bytes.
     const LEN: usize;
 
@@ -17,6 +17,9 @@ pub trait Key: Sized + PartialEq {
     fn byte(&self, i: usize) -> u8
         ensures value { result ≡ slice_index (bytes self.now) i }
         ensures whole { length (bytes self.now) ≡ LEN };
+
+    fn same(&self, other: &Self) -> bool
+        ensures { Decides result (self.now ≡ other.now) };
 
     // Which chain the key belongs to: the exclusive or of its bytes, its low six bits.
     fn chain(&self) -> usize
@@ -32,7 +35,4 @@ pub trait Key: Sized + PartialEq {
 
     // Keys with equal bytes are equal.
     ghost told: { (j k : Self) → bytes j ≡ bytes k → j ≡ k };
-
-    // The comparison finds just the equal ones.
-    ghost compared: { (j k : Self) → Decides (Self.eq j k) (j ≡ k) };
 }

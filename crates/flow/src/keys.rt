@@ -14,8 +14,6 @@ impl Key for Conversation {
 
     ghost told = { Prim.search rules };
 
-    ghost compared = { Prim.search rules };
-
     fn byte(&self, i: usize) -> u8 {
         match i {
             0..=3 => self.source.0.to_be_bytes()[i],
@@ -23,6 +21,10 @@ impl Key for Conversation {
             8 => self.protocol,
             _ => 0,
         }
+    }
+
+    fn same(&self, other: &Self) -> bool {
+        self == other
     }
 }
 
@@ -35,9 +37,11 @@ impl Key for Station {
 
     ghost told = { Prim.search rules };
 
-    ghost compared = { Prim.search rules };
-
     fn byte(&self, i: usize) -> u8 {
         self.source.get(i).copied().unwrap_or(0)
+    }
+
+    fn same(&self, other: &Self) -> bool {
+        self.source == other.source
     }
 }

@@ -17,7 +17,7 @@ pub(crate) fn find_row<K: Key, M>(
     let mut at = usize::from(heads[key.chain()]);
     for _ in 0..rows.len() {
         let row = rows.get(at)?;
-        if row.key == *key {
+        if row.key.same(key) {
             return Some(at);
         }
         at = usize::from(row.next);

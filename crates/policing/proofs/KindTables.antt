@@ -2,7 +2,6 @@
 use Rattle.std.proofs.Common.{◌≡◌, ℕ, ◌+◌, cond, Some, None, Ok, Err, Option, Result, sym, ap, subst, arith}
 use Rattle.packet.specs.declared.kinds.Key.{Key}
 use Rattle.packet.specs.declared.kinds.Key.TheVariants.{Conversation, Station}
-use Rattle.std.specs.declared.cmp.PartialEq as comparing
 use Rattle.flow.specs.declared.key.Key as keys
 use Rattle.flow.specs.declared.table.FlowTable.{FlowTable}
 use Rattle.flow.specs.Rows as rows
@@ -13,7 +12,7 @@ use Rattle.policing.specs.declared.flows.FlowRow.{FlowRow}
 use Rattle.policing.specs.declared.flows.Flows.{Flows}
 use Rattle.policing.specs.Flows.{Looked, HeldBy, used_by, SameBoth, LookedBy, PutsBy}
 
-module _ {K M : Type 0} {kind : keys.Ghosts K} {eq : comparing.Ghosts K} (t u : FlowTable K M kind eq) (s : Same t u) where
+module _ {K M : Type 0} {kind : keys.Ghosts K} (t u : FlowTable K M kind) (s : Same t u) where
   back : (k : K) (m : M) → Held u k m → Held t k m
   back k m held = subst (λ v. rows.Holds v t.used k m) s.0 (subst (λ v. rows.Holds (rows_of u) v k m) s.2 held)
 

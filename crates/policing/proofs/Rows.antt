@@ -1,6 +1,5 @@
 -- From the row that was found to the meter that is held. Assumes nothing.
 use Rattle.std.proofs.Common.{◌≡◌, ℕ, ◌+◌, ◌<◌, length, Some, None, Ok, Err, Option, Result, sym, ap, ◌∙◌, subst, arith}
-use Rattle.std.specs.declared.cmp.PartialEq as comparing
 use Rattle.flow.specs.declared.key.Key as keys
 use Rattle.flow.specs.declared.row.Row.{Row}
 use Rattle.flow.specs.declared.row.Unplaced.{Unplaced}
@@ -13,7 +12,7 @@ use Rattle.flow.proofs.Whole.{sound}
 use Rattle.std.specs.Option.{option_map}
 use Rattle.policing.specs.Flows.{Looked}
 
-module _ {K M : Type 0} {kind : keys.Ghosts K} {eq : comparing.Ghosts K} (t : FlowTable K M kind eq) where
+module _ {K M : Type 0} {kind : keys.Ghosts K} (t : FlowTable K M kind) where
   -- a row in use that has the key is the one in which the meter is held
   pub held_row : (i : ℕ) (k : K) (m : M) → i < t.used → Keyed (rows_of t) i k → Held t k m → (x : Row K M) × At (rows_of t) i x × (x.key ≡ k) × (x.meter ≡ m)
   held_row i k m lt (x, at, key) (j, y, less, there, its, meter) =
@@ -33,7 +32,7 @@ module _ {K M : Type 0} {kind : keys.Ghosts K} {eq : comparing.Ghosts K} (t : Fl
       )
   looked_row k i None row read = absurd (omega (arith, row.0, read))
 
-module _ {K M : Type 0} {kind : keys.Ghosts K} {eq : comparing.Ghosts K} (t u : FlowTable K M kind eq) where
+module _ {K M : Type 0} {kind : keys.Ghosts K} (t u : FlowTable K M kind) where
   pub replaced : (i : ℕ) (m : M) (r : Option (Unit {0})) → i < t.used → Replaces t u i m r → (u.used ≡ t.used) × ((k : K) → RowOf t i k → Puts t u k m)
   replaced i m (Some _) lt s = (s.1, s.3)
   replaced i m None lt s = absurd (let z = s.0 in omega arith)

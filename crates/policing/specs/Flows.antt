@@ -5,7 +5,6 @@
 -- LookedBy, KeepsBy: looking and keeping in the table of a key's kind
 -- Assumes nothing.
 use Rattle.std.specs.Prelude.{◌≡◌, ℕ, ◌+◌, ◌<◌, ◌≤◌, length, Some, None, Ok, Err, Option, Result}
-use Rattle.std.specs.declared.cmp.PartialEq as comparing
 use Rattle.packet.specs.declared.kinds.Key.{Key}
 use Rattle.packet.specs.declared.kinds.Key.TheVariants.{Conversation, Station}
 use Rattle.flow.specs.declared.key.Key as keys
@@ -17,15 +16,15 @@ use Rattle.policing.specs.declared.flows.FlowRow.{FlowRow}
 use Rattle.policing.specs.declared.flows.Flows.{Flows}
 
 -- over every kind of key and meter
-module _ {K M : Type 0} {kind : keys.Ghosts K} {eq : comparing.Ghosts K} where
+module _ {K M : Type 0} {kind : keys.Ghosts K} where
   -- the row that has the key, and its meter; none where a row is free; and a full table otherwise
-  abbrev pub Looked : FlowTable K M kind eq → K → Result (Option (FlowRow M)) Refusal → Type 0
+  abbrev pub Looked : FlowTable K M kind → K → Result (Option (FlowRow M)) Refusal → Type 0
   Looked t k (Ok (Some h)) = RowOf t h.row k × Held t k h.meter × ((n : M) → Held t k n → n ≡ h.meter)
   Looked t k (Ok None) = Missing t k × (t.used < length (rows_of t))
   Looked t k (Err e) = (e ≡ TableFull) × Missing t k × (length (rows_of t) ≤ t.used)
 
   -- in the key's own row, or in a new one where one is free
-  abbrev pub Keeps : FlowTable K M kind eq → FlowTable K M kind eq → K → Option ℕ → M → Type 0
+  abbrev pub Keeps : FlowTable K M kind → FlowTable K M kind → K → Option ℕ → M → Type 0
   Keeps t u k (Some i) m = RowOf t i k → (u.used ≡ t.used + 0) × Puts t u k m
   Keeps t u k None m = Missing t k → t.used < length (rows_of t) → (u.used ≡ t.used + 1) × Puts t u k m
 
