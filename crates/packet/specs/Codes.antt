@@ -1,10 +1,8 @@
 -- What a table of code points has to be.
 -- all_below: is each below a limit?
 -- absent, distinct: is a number none of these, and are no two equal?
--- codes_in, all_codes: the code points of a class, green, yellow, red, and those of all classes
 -- Assumes nothing.
-use Rattle.std.specs.Prelude.{ℕ, Bool, true, not, ◌&&◌, List, [], ◌∷◌, ◌++◌, ◌==◌, nat_lt}
-use Rattle.packet.specs.declared.class_marks.ClassMarks.{ClassMarks}
+use Rattle.std.specs.Prelude.{ℕ, Bool, true, not, ◌&&◌, List, [], ◌∷◌, ◌==◌, nat_lt}
 
 abbrev pub all_below : ℕ → List ℕ → Bool
 all_below n [] = true
@@ -17,9 +15,3 @@ absent x (y ∷ ys) = not (x == y) && absent x ys
 abbrev pub distinct : List ℕ → Bool
 distinct [] = true
 distinct (x ∷ xs) = absent x xs && distinct xs
-
-abbrev pub codes_in : ClassMarks → List ℕ
-codes_in r = r.green ∷ (r.yellow ∷ (r.red ∷ []))
-
-abbrev pub all_codes : ClassMarks → ClassMarks → ClassMarks → ClassMarks → List ℕ
-all_codes one two three four = codes_in one ++ codes_in two ++ codes_in three ++ codes_in four

@@ -1,10 +1,11 @@
 -- Marks: what each class and colour is marked with, and what colour a mark has.
--- row_of, code_in, code: the code points of a class, that of a colour in its class, and that of a class and colour
+-- colour_place, place: the place of a colour in its class, and of a class and colour in the table
+-- code: the code point of a class and colour
 -- is_mark: is a code point that of a colour, in any class?
 -- colour_of, arrival_of: the colour of a code point, and of a packet as it arrives
--- drop_precedence, assured: the number of a colour, and the code points of assured forwarding
+-- assured: the code points of assured forwarding
 -- Assumes nothing.
-use Rattle.std.specs.Prelude.{ℕ, ◌+◌, ◌*◌, Bool, cond, ◌||◌, ◌==◌}
+use Rattle.std.specs.Prelude.{ℕ, ◌+◌, ◌-◌, ◌*◌, Bool, cond, ◌||◌, ◌==◌, slice_index}
 use Rattle.packet.specs.declared.kinds.Class.{Class}
 use Rattle.packet.specs.declared.kinds.Class.TheVariants.{One, Two, Three, Four}
 use Rattle.meter.specs.declared.measures.PacketColour.{PacketColour}
@@ -12,22 +13,19 @@ use Rattle.meter.specs.declared.measures.PacketColour.TheVariants.{Green, Yellow
 use Rattle.packet.specs.declared.kinds.Packet.{Packet}
 use Rattle.packet.specs.declared.kinds.Packet.TheVariants.{Ipv4, Other}
 use Rattle.packet.specs.declared.marks.Marks.{Marks}
-use Rattle.packet.specs.declared.class_marks.ClassMarks.{ClassMarks}
 use Rattle.packet.specs.Kinds.{class_number}
 
-abbrev pub row_of : Marks → Class → ClassMarks
-row_of m One = m.one
-row_of m Two = m.two
-row_of m Three = m.three
-row_of m Four = m.four
+abbrev pub colour_place : PacketColour → ℕ
+colour_place Green = 0
+colour_place Yellow = 1
+colour_place Red = 2
 
-abbrev pub code_in : ClassMarks → PacketColour → ℕ
-code_in r Green = r.green
-code_in r Yellow = r.yellow
-code_in r Red = r.red
+-- class by class, each green, yellow, red
+abbrev pub place : Class → PacketColour → ℕ
+place c k = 3 * (class_number c - 1) + colour_place k
 
 abbrev pub code : Marks → Class → PacketColour → ℕ
-code m c k = code_in (row_of m c) k
+code m c k = slice_index m.codes (place c k)
 
 -- in any class
 abbrev pub is_mark : Marks → PacketColour → ℕ → Bool
@@ -43,11 +41,6 @@ abbrev pub arrival_of : Marks → Packet → PacketColour
 arrival_of m (Ipv4 h) = colour_of m h.mark
 arrival_of m (Other s) = Green
 
-abbrev pub drop_precedence : PacketColour → ℕ
-drop_precedence Green = 1
-drop_precedence Yellow = 2
-drop_precedence Red = 3
-
 -- 8 for each class, and 2, 4 or 6 for the colour
 abbrev pub assured : Class → PacketColour → ℕ
-assured c k = 8 * class_number c + 2 * drop_precedence k
+assured c k = 8 * class_number c + 2 * (colour_place k + 1)

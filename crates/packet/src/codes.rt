@@ -2,24 +2,14 @@
 ghost use Rattle.std.specs.Prelude.{◌≡◌, ◌<◌};
 ghost use Rattle.packet.specs.declared.kinds.Class.{Class};
 ghost use Rattle.meter.specs.declared.measures.PacketColour.{PacketColour};
-ghost use Rattle.packet.specs.Marks.{row_of, code_in, code, is_mark, colour_of, arrival_of, assured};
+ghost use Rattle.packet.specs.Marks.{place, code, is_mark, colour_of, arrival_of, assured};
 
-use crate::class_marks::ClassMarks;
 use crate::kinds::{Class, Packet};
 use crate::marks::Marks;
 use meter::measures::PacketColour;
 
-impl ClassMarks {
-    fn of_colour(self, colour: PacketColour) -> u8
-        ensures { result ≡ code_in self colour }
-    {
-        match colour {
-            PacketColour::Green => self.green,
-            PacketColour::Yellow => self.yellow,
-            PacketColour::Red => self.red,
-        }
-    }
-}
+// How many colours a class has.
+const COLOURS: usize = 3;
 
 impl Marks {
     // The marks of assured forwarding: 8 for each class, and 2, 4 or 6 for the colour.
@@ -27,37 +17,17 @@ impl Marks {
         ensures { (c : Class) (k : PacketColour) → code result c k ≡ assured c k }
     {
         Marks {
-            one: ClassMarks {
-                green: 10,
-                yellow: 12,
-                red: 14,
-            },
-            two: ClassMarks {
-                green: 18,
-                yellow: 20,
-                red: 22,
-            },
-            three: ClassMarks {
-                green: 26,
-                yellow: 28,
-                red: 30,
-            },
-            four: ClassMarks {
-                green: 34,
-                yellow: 36,
-                red: 38,
-            },
+            codes: [10, 12, 14, 18, 20, 22, 26, 28, 30, 34, 36, 38],
         }
     }
 
     // The code point of a class and colour, which reads as that colour again.
-    #[tactic(auto, using(crate::proofs::Colours::code_below, crate::proofs::Colours::colour_of_code))]
     pub fn code_of(&self, class: Class, colour: PacketColour) -> u8
         ensures value { result ≡ code self.now class colour }
         ensures bound { result < 64 }
         ensures back { colour_of self.now result ≡ colour }
     {
-        self.of_class(class).of_colour(colour)
+        self.codes[place_of(class, colour)]
     }
 
     // The colour of a code point, in whatever class; one that is not in the table is green.
@@ -76,20 +46,10 @@ impl Marks {
     fn has(&self, colour: PacketColour, code: u8) -> bool
         ensures { result ≡ is_mark self.now colour code }
     {
-        Class::ALL
-            .iter()
-            .any(|class| self.of_class(*class).of_colour(colour) == code)
-    }
-
-    fn of_class(&self, class: Class) -> ClassMarks
-        ensures { result ≡ row_of self.now class }
-    {
-        match class {
-            Class::One => self.one,
-            Class::Two => self.two,
-            Class::Three => self.three,
-            Class::Four => self.four,
-        }
+        self.codes[place_of(Class::One, colour)] == code
+            || self.codes[place_of(Class::Two, colour)] == code
+            || self.codes[place_of(Class::Three, colour)] == code
+            || self.codes[place_of(Class::Four, colour)] == code
     }
 }
 
@@ -103,4 +63,23 @@ impl Packet {
             Packet::Other(_) => PacketColour::Green,
         }
     }
+}
+
+// The place of a class and colour in the table.
+fn place_of(class: Class, colour: PacketColour) -> usize
+    ensures value { result ≡ place class colour }
+    ensures bound { result < 12 }
+{
+    let row = match class {
+        Class::One => 0,
+        Class::Two => 1,
+        Class::Three => 2,
+        Class::Four => 3,
+    };
+    let column = match colour {
+        PacketColour::Green => 0,
+        PacketColour::Yellow => 1,
+        PacketColour::Red => 2,
+    };
+    COLOURS * row + column
 }

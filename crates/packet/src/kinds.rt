@@ -87,11 +87,6 @@ impl Refusal {
     }
 }
 
-impl Class {
-    // All four, in their order.
-    pub(crate) const ALL: [Class; 4] = [Class::One, Class::Two, Class::Three, Class::Four];
-}
-
 impl TryFrom<u8> for Class {
     type Error = UnknownClass;
 

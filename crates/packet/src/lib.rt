@@ -2,7 +2,6 @@
 #![tactic(auto)]
 
 mod checksum;
-mod class_marks;
 pub mod codes;
 pub mod headers;
 pub mod kinds;
