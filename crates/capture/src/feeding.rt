@@ -69,7 +69,9 @@ impl Blocks {
         self.closed = true;
     }
 
-    // What comes next. A record's frame is a part of the bytes at hand.
+    // What comes next. A record's frame is a part of the bytes at hand. It is asked twice for each record, here and to
+    // pass it, so the two are to be laid into one.
+    #[inline(always)]
     pub fn look(&self) -> Next<'_>
         ensures value { shown_next result ≡ comes self.now }
         ensures bound { takes (shown_next result) ≤ length (unread_of self.now) }

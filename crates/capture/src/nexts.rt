@@ -39,6 +39,7 @@ fn following(header: FileHeader, closed: bool, place: u64, unread: &[u8]) -> Nex
 
 // What comes next, by the header so far, whether more bytes may come, and the bytes at hand with their place.
 // Four values and no struct of them, which `Blocks::look` would make for this one call.
+#[inline(always)]
 pub fn next_of(header: Option<FileHeader>, closed: bool, place: u64, unread: &[u8]) -> Next<'_>
     ensures value { shown_next result ≡ next_of header closed place unread.now }
     ensures bound { takes (shown_next result) ≤ length unread.now }
