@@ -8,7 +8,7 @@ use Rattle.meter.specs.declared.measures.PacketColour.{PacketColour}
 use Rattle.meter.specs.declared.measures.PacketColour.TheVariants.{Green, Yellow, Red}
 use Rattle.packet.specs.declared.marks.Marks.{Marks}
 use Rattle.packet.specs.Kinds.{class_number}
-use Rattle.packet.proofs.Tables.{apart_at}
+use Rattle.packet.proofs.Tables.{below_at, apart_at}
 use Rattle.packet.specs.Marks.{colour_place, place, code, is_mark, colour_of}
 
 class_bounds : (c : Class) → (1 ≤ class_number c) × (class_number c ≤ 4)
@@ -29,6 +29,9 @@ or_true : (b : Bool) → (b || true) ≡ true
 or_true b = or_right b true refl
 
 module _ (m : Marks) where
+  pub code_below : (c : Class) (k : PacketColour) → code m c k < 64
+  code_below c k = below_at 64 m.codes m.small (place c k) (omega (arith, m.twelve, place_bound c k))
+
   is_mark_lem : (c : Class) (k : PacketColour) → is_mark m k (code m c k) ≡ true
   is_mark_lem One k = simp (eq-eqb (code m One k) (code m One k) refl)
   is_mark_lem Two k = simp (eq-eqb (code m Two k) (code m Two k) refl, or_true)
